@@ -27,7 +27,7 @@ pub record PartOf (world : World) (c : ℕ) (library : Chips) (wires : List ℕ 
 -- part i of a chip that works
 pub part_of : (world : World) (c : ℕ) (library : Chips) (chip : Entry) (wires : List ℕ → Histories) → Works world c library chip wires → (i : ℕ) (part : Part) (inner : Entry) → slice_get (parts_of library chip) i ≡ Some part → find_chip library part.chip ≡ Some inner → PartOf world c library wires i part inner
 part_of world c library chip wires h i part inner e f = record {
-  outside = at_parts (λ x. EndWorks world c x (wires [])) library chip (end_of library.blocks chip) (λ name bit. wires [] name bit c) (λ j name bit. wires (j ∷ []) name bit c) (h [] chip refl) i part inner e f;
+  outside = at_parts (λ x. EndWorks world c x (wires [])) library chip (end_of library.memories chip) (λ name bit. wires [] name bit c) (λ j name bit. wires (j ∷ []) name bit c) (h [] chip refl) i part inner e f;
   inside = works_inside world c library chip wires h i part inner e f;
 }
 

@@ -153,7 +153,8 @@ pub fn bits_wire_bits<'a>(
     net: &'a [u8],
     net_bits: (u8, u8),
 ) -> Joint<'a>
-    ensures { result ≡ connect pin.now (Some (Bits bits.0 bits.1)) net.now (Some (Bits net_bits.0 net_bits.1)) }
+    ensures { result
+        ≡ connect pin.now (Some (Bits bits.0 bits.1)) net.now (Some (Bits net_bits.0 net_bits.1)) }
 {
     Joint {
         pin,
@@ -270,7 +271,8 @@ pub fn chip(
     outputs: &[Port<'_>],
     parts: List<Part>,
 ) -> Result<Chip, AllocError>
-    ensures { IfOk result (λ chip. chip ≡ chip_named name.now inputs.now outputs.now (Parts parts)) }
+    ensures { IfOk result
+        (λ chip. chip ≡ chip_named name.now inputs.now outputs.now (Parts parts)) }
 {
     let inputs = pins_of(alloc, inputs)?;
     let outputs = pins_of(alloc, outputs)?;

@@ -3,6 +3,7 @@ use Rattle.std.specs.Prelude.{◌≡◌, ℕ, ◌<◌, true, false, cond, List, 
 use Rattle.word16.specs.Words.{word_add}
 use Rattle.hdl_tree.specs.declared.tree.Chip.{Chip}
 use Rattle.hdl_tree.specs.declared.library.Entry.{Entry}
+use Rattle.hdl_tree.specs.declared.ends.Memories.TheVariants.{Gates}
 use Rattle.hdl_tree.specs.Writable.{all, chip_can}
 use Rattle.hdl_tree.specs.Memory.{before}
 use Rattle.hdl_tree.specs.Chips.{Chips}
@@ -38,7 +39,7 @@ PcLaw = Always HasMemoryChips pc_tree (λ w c. word w "out" c ≡ before 0 c (λ
 
 -- a library whose memories are made of gates
 abbrev pub of_gates : List Entry → Chips
-of_gates entries = record { entries = entries; blocks = false }
+of_gates entries = record { entries = entries; memories = Gates }
 
 -- In each cycle of every behaviour of the chip of gates, its pins are those of a block of 2 ^ bits words, all 0 at the start. Its out is the
 -- word at the address, which is the last one that was loaded there in a cycle before.

@@ -186,7 +186,8 @@ fn memory(alloc: Global, name: &[u8], bits: u8, parts: List<Part>) -> Result<Chi
 
 // The part that hands the load on to one of eight.
 fn add_demux(alloc: Global, parts: &mut List<Part>, sel: Joint<'_>) -> Result<(), AllocError>
-    ensures { IfOk result (λ _. parts.new ≡ parts.old ++ part "DMux8Way" (wire "in" "load" ∷ sel.entry ∷ ways 8 "load") ∷ []) }
+    ensures { IfOk result (λ _. parts.new
+        ≡ parts.old ++ part "DMux8Way" (wire "in" "load" ∷ sel.entry ∷ ways 8 "load") ∷ []) }
 {
     add_part(
         alloc,
@@ -210,7 +211,8 @@ fn add_demux(alloc: Global, parts: &mut List<Part>, sel: Joint<'_>) -> Result<()
 
 // The part that chooses one of eight words.
 fn add_mux(alloc: Global, parts: &mut List<Part>, sel: Joint<'_>) -> Result<(), AllocError>
-    ensures { IfOk result (λ _. parts.new ≡ parts.old ++ part "Mux8Way16" (ways 8 "word" ++ sel.entry ∷ wire "out" "out" ∷ []) ∷ []) }
+    ensures { IfOk result (λ _. parts.new
+        ≡ parts.old ++ part "Mux8Way16" (ways 8 "word" ++ sel.entry ∷ wire "out" "out" ∷ []) ∷ []) }
 {
     add_part(
         alloc,

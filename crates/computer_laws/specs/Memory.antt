@@ -7,7 +7,8 @@ use Rattle.chip_basic.specs.Laws.{bits, word}
 use Rattle.hack_cpu.specs.Computer.{block_word}
 use Rattle.hack_cpu.specs.Trees.{HasComputerChips, memory_tree}
 
--- At an address below 24,576 Memory gives the word that was last loaded there in a cycle before, or 0; from there on it gives the key that is held.
+-- At an address below 24,576 Memory gives the word that was last loaded there in a cycle before, or 0; from there on it
+-- gives the key that is held.
 abbrev pub MemoryWorks : World → Histories → ℕ → Type 0
 MemoryWorks world w c = word w "out" c ≡ (let a = bits 15 w "address" c in if nat_lt a 24576 then block_word 15 w c a else world.key c)
 

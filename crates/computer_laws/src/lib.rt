@@ -1,4 +1,5 @@
-//! Laws of the chips of the Computer: what Memory does at its pins, which part is which, and what all chips come down to. No code, only laws.
+//! Laws of the chips of the Computer: what Memory does at its pins, which part is which, and what all chips come down
+//! to. No code, only laws.
 #![tactic(auto)]
 
 ghost use Rattle.computer_laws.specs.Cycle.{WholeCycleLaw};
@@ -21,7 +22,8 @@ pub fn places_law()
     ensures { PlacesLaw }
 {}
 
-/// Law: each chip without faults comes down to Nand gates, flip-flops, keyboard, ROM and, in a library of blocks, memories as blocks.
+/// Law: each chip without faults comes down to Nand gates, flip-flops, keyboard, ROM and, in a library of blocks,
+/// memories as blocks.
 pub fn down_law()
     ensures { DownLaw }
 {

@@ -88,7 +88,7 @@ first_at (q ∷ outs) (suc k) p there new =
     ap (λ (t : Bool). cond t (Some (pin_width q)) (width_in outs p.name)) (or_first (bytes_eq p.name q.name) (is_among p.name (map pin_name (take k outs))) new)
     ∙ first_at outs k p there (or_right (bytes_eq p.name q.name) (is_among p.name (map pin_name (take k outs))) new)
 
-named_once : (chips : Chips) (names : List (List ℕ)) (chip : Entry) → IsFaultless chips names chip → end_of chips.blocks chip ≡ None → (k : ℕ) (p : Pin) → slice_get chip.chip.outputs k ≡ Some p → width_in chip.chip.outputs p.name ≡ Some (pin_width p)
+named_once : (chips : Chips) (names : List (List ℕ)) (chip : Entry) → IsFaultless chips names chip → end_of chips.memories chip ≡ None → (k : ℕ) (p : Pin) → slice_get chip.chip.outputs k ≡ Some p → width_in chip.chip.outputs p.name ≡ Some (pin_width p)
 named_once chips names chip faultless no_end k p there =
     let ins = chip.chip.inputs in
     let outs = chip.chip.outputs in
@@ -96,7 +96,7 @@ named_once chips names chip faultless no_end k p there =
     let twice : twice_fault chip.name (map pin_name (ins ++ take k outs)) (Some p) ≡ None = sym (output_fault chip k ∙ ap (twice_fault chip.name (map pin_name (ins ++ take k outs))) there) ∙ right in
     first_at outs k p there (behind p.name ins (take k outs) (not_twice (is_among p.name (map pin_name (ins ++ take k outs))) _ twice))
 
-outputs_by : (chips : Chips) (chip : Entry) (o : Option End) → EndsHavePins chips → IsFine chips chip → end_of chips.blocks chip ≡ o → (k : ℕ) (p : Pin) → slice_get chip.chip.outputs k ≡ Some p → width_in chip.chip.outputs p.name ≡ Some (pin_width p)
+outputs_by : (chips : Chips) (chip : Entry) (o : Option End) → EndsHavePins chips → IsFine chips chip → end_of chips.memories chip ≡ o → (k : ℕ) (p : Pin) → slice_get chip.chip.outputs k ≡ Some p → width_in chip.chip.outputs p.name ≡ Some (pin_width p)
 outputs_by chips chip None pins f is k p there = named_once chips f.names chip f.faultless is k p there
 outputs_by chips chip (Some e) pins f is k p there = end_outs chip e (pins f.name chip e f.found is) k p there
 
@@ -127,7 +127,7 @@ module _ (chips : Chips) (top_name : List ℕ) (top : Entry) (pins : EndsHavePin
   pub out_driven : (path : List ℕ) (chip : Entry) → chip_at chips top path ≡ Some chip → (k : ℕ) (p : Pin) → slice_get chip.chip.outputs k ≡ Some p → (bit : ℕ) → bit < pin_width p → IsDriven chips top path p.name bit
   out_driven path chip at k p there bit lt =
       output_driven chips top_name top pins found faultless path chip at p.name bit
-      (record { width = pin_width p; there = outputs_by chips chip (end_of chips.blocks chip) pins (fine chips top_name top pins found faultless path chip at) refl k p there; below = lt })
+      (record { width = pin_width p; there = outputs_by chips chip (end_of chips.memories chip) pins (fine chips top_name top pins found faultless path chip at) refl k p there; below = lt })
 
   pub pin_driven : (k : ℕ) (p : Pin) (bit : ℕ) → bit < pin_width p → (slice_get top.chip.inputs k ≡ Some p) ⊎ Stands top.chip.outputs p → (b : BitOf) → slice_get (bits_of p.name 0 (pin_width p)) bit ≡ Some b → IsDriven chips top [] p.name bit
   pin_driven k p bit lt (inr s) b e = out_driven [] top refl s.k p s.there bit lt
@@ -247,8 +247,8 @@ module _ (chips : Chips) (top_name : List ℕ) (top : Entry) (pins : EndsHavePin
       pub chip : Entry
       pub by_name : find_chip chips name ≡ Some chip
       pub there : chip_at chips top path ≡ Some chip
-      pub its : block_at (end_of chips.blocks chip) (is.block path) ≡ Some b
-      pub its' : block_at (end_of chips.blocks chip) (is'.block path) ≡ Some b'
+      pub its : block_at (end_of chips.memories chip) (is.block path) ≡ Some b
+      pub its' : block_at (end_of chips.memories chip) (is'.block path) ≡ Some b'
 
     pub one_block : (b b' : ℕ) → SameBlock e e' b b' → OneBlock b b'
     one_block b b' s =

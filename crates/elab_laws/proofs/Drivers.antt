@@ -84,7 +84,7 @@ pub record HasOutput (chips : Chips) (top : Entry) (path : List ℕ) (bit : ℕ)
   pub e : End
   pub found : find_chip chips name ≡ Some chip
   pub there : chip_at chips top path ≡ Some chip
-  pub is : end_of chips.blocks chip ≡ Some e
+  pub is : end_of chips.memories chip ≡ Some e
   pub below : bit < end_nodes (Some e)
 
 abbrev pub IsDriver : Chips → Entry → Driver → Type 0
@@ -102,7 +102,7 @@ node_of low high at (Output path bit) = at path (codes "out") bit
 
 -- each chip that is no end is wired
 abbrev pub AreWired : Chips → Entry → ℕ → ℕ → (List ℕ → Wires ℕ) → Type 0
-AreWired chips top low high at = (path : List ℕ) (chip : Entry) → chip_at chips top path ≡ Some chip → end_of chips.blocks chip ≡ None → PartsWired low high chips chip (parts_of chips chip) (at path) (λ i. at (path ++ i ∷ []))
+AreWired chips top low high at = (path : List ℕ) (chip : Entry) → chip_at chips top path ≡ Some chip → end_of chips.memories chip ≡ None → PartsWired low high chips chip (parts_of chips chip) (at path) (λ i. at (path ++ i ∷ []))
 
 -- the bit has the value of what drives it wherever a chip is wired, so in each numbering its node
 pub record IsDriven (chips : Chips) (top : Entry) (path name : List ℕ) (bit : ℕ) : Type 0 where
@@ -137,7 +137,7 @@ module _ (chips : Chips) (top_name : List ℕ) (top : Entry) (pins : EndsHavePin
         subst (λ (ps : List Part). PartsWired low high chips chip ps (at path) (λ i. at (path ++ i ∷ []))) (sym (ap (λ (o : Option End). parts_unless o (parts_of_body chip.chip.body)) no_end))
         (subst (λ (o : Option End). ChipWired low high chips chip o (at path) (λ i. at (path ++ i ∷ [])) (λ e. EndStands net low (block path) e (at path))) no_end (numbering.wired path chip there))
 
-    pub stands_at : (path : List ℕ) (chip : Entry) (e : End) → chip_at chips top path ≡ Some chip → end_of chips.blocks chip ≡ Some e → EndStands net low (block path) e (at path)
+    pub stands_at : (path : List ℕ) (chip : Entry) (e : End) → chip_at chips top path ≡ Some chip → end_of chips.memories chip ≡ Some e → EndStands net low (block path) e (at path)
     stands_at path chip e there is = subst (λ (o : Option End). ChipWired low high chips chip o (at path) (λ i. at (path ++ i ∷ [])) (λ e. EndStands net low (block path) e (at path))) is (numbering.wired path chip there)
 
   abbrev Driven : List ℕ → List ℕ → ℕ → Type 0
@@ -161,10 +161,10 @@ module _ (chips : Chips) (top_name : List ℕ) (top : Entry) (pins : EndsHavePin
       let f = o.from in
       let within_chip : inner_chip chips chip x.i ≡ Some x.inner = ap (chip_of chips) x.there ∙ x.found in
       let below : chip_at chips top (path ++ x.i ∷ []) ≡ Some x.inner = chip_below chips path top chip x.inner x.i there within_chip in
-      let apart : is_input x.inner x.conn.pin.name ≡ false = apart_by chips x.inner (end_of chips.blocks x.inner) (has_ends chips pins) (fine (path ++ x.i ∷ []) x.inner below) refl x.conn.pin.name o.width o.out in
+      let apart : is_input x.inner x.conn.pin.name ≡ false = apart_by chips x.inner (end_of chips.memories x.inner) (has_ends chips pins) (fine (path ++ x.i ∷ []) x.inner below) refl x.conn.pin.name o.width o.out in
       let within : f.k < count x.conn.pin.subscript (width_of x.inner x.conn.pin.name) = subst (λ (v : ℕ). f.k < count x.conn.pin.subscript v) (output_width x.inner x.conn.pin.name o.width apart o.out) f.within in
       let own : IsJoint chips chip [] x.i x.conn f.w f.k false = record { chip = chip; part = x.part; inner = x.inner; j = x.j; at = refl; there = x.there; found = x.found; here = x.here; right = f.right; way = apart; within = within } in
-      let no_end = no_end_by chips chip x.i x.part (end_of chips.blocks chip) refl x.there in
+      let no_end = no_end_by chips chip x.i x.part (end_of chips.memories chip) refl x.there in
       via path name bit (path ++ x.i ∷ []) x.conn.pin.name (first x.conn.pin.subscript + f.k)
       (λ low high at wires.
       let w = wires path chip there no_end in
@@ -175,11 +175,11 @@ module _ (chips : Chips) (top_name : List ℕ) (top : Entry) (pins : EndsHavePin
       sym joined)
       (go x.i x.inner within_chip x.conn.pin.name (first x.conn.pin.subscript + f.k) (tree_fits chips (top.name ∷ []) top faultless path chip there x.i x.conn f.w f.k false own))
 
-  output_by : (path : List ℕ) (chip : Entry) (b : Bool) → chip_at chips top path ≡ Some chip → end_of chips.blocks chip ≡ None → (name : List ℕ) (bit : ℕ) → HasBit chip.chip.outputs name bit → some (drives chips name bit) (parts_of chips chip) ≡ b → ((i : ℕ) (inner : Entry) → inner_chip chips chip i ≡ Some inner → (n : List ℕ) (k : ℕ) → HasBit inner.chip.outputs n k → Driven (path ++ i ∷ []) n k) → Driven path name bit
+  output_by : (path : List ℕ) (chip : Entry) (b : Bool) → chip_at chips top path ≡ Some chip → end_of chips.memories chip ≡ None → (name : List ℕ) (bit : ℕ) → HasBit chip.chip.outputs name bit → some (drives chips name bit) (parts_of chips chip) ≡ b → ((i : ℕ) (inner : Entry) → inner_chip chips chip i ≡ Some inner → (n : List ℕ) (k : ℕ) → HasBit inner.chip.outputs n k → Driven (path ++ i ∷ []) n k) → Driven path name bit
   output_by path chip true there is name bit has e go = net_driven path chip there name bit e go
   output_by path chip false there is name bit has e go = driven_as path name bit Low tt (λ low high at wires. (wires path chip there is).undriven name has.width bit has.there has.below e)
 
-  output_of : (path : List ℕ) (chip : Entry) (o : Option End) → chip_at chips top path ≡ Some chip → end_of chips.blocks chip ≡ o → (name : List ℕ) (bit : ℕ) → HasBit chip.chip.outputs name bit → ((i : ℕ) (inner : Entry) → inner_chip chips chip i ≡ Some inner → (n : List ℕ) (k : ℕ) → HasBit inner.chip.outputs n k → Driven (path ++ i ∷ []) n k) → Driven path name bit
+  output_of : (path : List ℕ) (chip : Entry) (o : Option End) → chip_at chips top path ≡ Some chip → end_of chips.memories chip ≡ o → (name : List ℕ) (bit : ℕ) → HasBit chip.chip.outputs name bit → ((i : ℕ) (inner : Entry) → inner_chip chips chip i ≡ Some inner → (n : List ℕ) (k : ℕ) → HasBit inner.chip.outputs n k → Driven (path ++ i ∷ []) n k) → Driven path name bit
   output_of path chip None there is name bit has go = output_by path chip (some (drives chips name bit) (parts_of chips chip)) there is name bit has refl go
   output_of path chip (Some e) there is name bit has go =
       let g = fine path chip there in
@@ -191,7 +191,7 @@ module _ (chips : Chips) (top_name : List ℕ) (top : Entry) (pins : EndsHavePin
   output_in : (d : ℕ) (path : List ℕ) (chip : Entry) → IsSound d chips (plan_of chips) chip → chip_at chips top path ≡ Some chip → (name : List ℕ) (bit : ℕ) → HasBit chip.chip.outputs name bit → Driven path name bit
   output_in zero path chip sound there name bit has = absurd sound
   output_in (suc d) path chip sound there name bit has =
-      output_of path chip (end_of chips.blocks chip) there refl name bit has
+      output_of path chip (end_of chips.memories chip) there refl name bit has
       (λ i inner h n k has'. output_in d (path ++ i ∷ []) inner (sound.2 i inner h) (chip_below chips path top chip inner i there h) n k has')
 
   sound_at : (path : List ℕ) (chip : Entry) → chip_at chips top path ≡ Some chip → Nested chips chip
@@ -209,8 +209,8 @@ module _ (chips : Chips) (top_name : List ℕ) (top : Entry) (pins : EndsHavePin
       net_driven path chip there name bit driven (λ i inner h n k has. output_driven (path ++ i ∷ []) inner (chip_below chips path top chip inner i there h) n k has)
 
   module _ (r : List ℕ) (i : ℕ) (name : List ℕ) (bit : ℕ) (around inner : Entry) (part : Part) (there : chip_at chips top (backwards r) ≡ Some around) (here : slice_get (parts_of chips around) i ≡ Some part) (found : find_chip chips part.chip ≡ Some inner) (has : HasBit inner.chip.inputs name bit) (go : (n : List ℕ) (k : ℕ) → HasBit around.chip.inputs n k → Driven (backwards r) n k) where
-    no_end : end_of chips.blocks around ≡ None
-    no_end = no_end_by chips around i part (end_of chips.blocks around) refl here
+    no_end : end_of chips.memories around ≡ None
+    no_end = no_end_by chips around i part (end_of chips.memories around) refl here
 
     part_wired : (low high : ℕ) (at : List ℕ → Wires ℕ) → AreWired chips top low high at → PartWired low high inner part (at (backwards r)) (at (backwards r ++ i ∷ []))
     part_wired low high at wires = (wires (backwards r) around there no_end).part i part inner here found

@@ -92,10 +92,10 @@ module _ (chips : Chips) (top_name : List ℕ) (top : Entry) (pins : EndsHavePin
   bit_same row row' same path name bit g =
       ap row (g.same e.net is.low is.high is.block is.at is.numbering) ∙ same g.d g.is ∙ sym (ap row' (g.same e'.net is'.low is'.high is'.block is'.at is'.numbering))
 
-  stands : (path : List ℕ) (chip : Entry) (k : End) → chip_at chips top path ≡ Some chip → end_of chips.blocks chip ≡ Some k → EndStands e.net is.low (is.block path) k (is.at path)
+  stands : (path : List ℕ) (chip : Entry) (k : End) → chip_at chips top path ≡ Some chip → end_of chips.memories chip ≡ Some k → EndStands e.net is.low (is.block path) k (is.at path)
   stands path chip k there end_is = stands_at chips top_name top pins found faultless e.net is.low is.high is.block is.at is.numbering path chip k there end_is
 
-  stands' : (path : List ℕ) (chip : Entry) (k : End) → chip_at chips top path ≡ Some chip → end_of chips.blocks chip ≡ Some k → EndStands e'.net is'.low (is'.block path) k (is'.at path)
+  stands' : (path : List ℕ) (chip : Entry) (k : End) → chip_at chips top path ≡ Some chip → end_of chips.memories chip ≡ Some k → EndStands e'.net is'.low (is'.block path) k (is'.at path)
   stands' path chip k there end_is = stands_at chips top_name top pins found faultless e'.net is'.low is'.high is'.block is'.at is'.numbering path chip k there end_is
 
   -- ---- the input bits of ends
@@ -106,7 +106,7 @@ module _ (chips : Chips) (top_name : List ℕ) (top : Entry) (pins : EndsHavePin
     pub chip : Entry
     pub its : find_chip chips name ≡ Some chip
     pub there : chip_at chips top path ≡ Some chip
-    pub end_is : end_of chips.blocks chip ≡ Some k
+    pub end_is : end_of chips.memories chip ≡ Some k
 
   pub in_driven : (path : List ℕ) (k : End) → EndAt path k → (name : List ℕ) (width : ℕ) → find_value name (end_inputs k) ≡ Some width → (bit : ℕ) → bit < width → IsDriven chips top path name bit
   in_driven path k x name width wide bit lt = input_driven chips top_name top pins found faultless path x.chip x.there name bit (end_bit x.chip k name width bit (pins x.name x.chip k x.its x.end_is) wide lt)
@@ -160,7 +160,7 @@ module _ (chips : Chips) (top_name : List ℕ) (top : Entry) (pins : EndsHavePin
   abbrev pub Blocks : ℕ → ℕ → Type 0
   Blocks b b' = OneBlock chips top_name top pins found faultless e e' is is' b b'
 
-  both_by : (path : List ℕ) (name : List ℕ) (chip : Entry) (o : Option End) → find_chip chips name ≡ Some chip → chip_at chips top path ≡ Some chip → end_of chips.blocks chip ≡ o → (b b' : ℕ) → block_at o (is.block path) ≡ Some b → block_at o (is'.block path) ≡ Some b' → BothBlocks b b'
+  both_by : (path : List ℕ) (name : List ℕ) (chip : Entry) (o : Option End) → find_chip chips name ≡ Some chip → chip_at chips top path ≡ Some chip → end_of chips.memories chip ≡ o → (b b' : ℕ) → block_at o (is.block path) ≡ Some b → block_at o (is'.block path) ≡ Some b' → BothBlocks b b'
   both_by path name chip None its there end_is b b' f f' = absurd cc
   both_by path name chip (Some ends.Nand) its there end_is b b' f f' = absurd cc
   both_by path name chip (Some ends.Dff) its there end_is b b' f f' = absurd cc
@@ -175,21 +175,21 @@ module _ (chips : Chips) (top_name : List ℕ) (top : Entry) (pins : EndsHavePin
       subst (λ (x : ℕ). BothBlocks x b') g (subst (λ (x : ℕ). BothBlocks (is.block path) x) g' (memory_both path bits (record { name = name; chip = chip; its = its; there = there; end_is = end_is })))
 
   pub both_blocks : (b b' : ℕ) → Blocks b b' → BothBlocks b b'
-  both_blocks b b' x = both_by x.path x.name x.chip (end_of chips.blocks x.chip) x.by_name x.there refl b b' x.its x.its'
+  both_blocks b b' x = both_by x.path x.name x.chip (end_of chips.memories x.chip) x.by_name x.there refl b b' x.its x.its'
 
   -- a block of one is that of the same end where it is so in the other
   part_of_block : (b b' c c' : ℕ) → (x : Blocks b b') (y : Blocks c c') → (p : x.path ≡ y.path) → b' ≡ c'
   part_of_block b b' c c' x y p =
       let one : Some x.chip ≡ Some y.chip = sym x.there ∙ ap (chip_at chips top) p ∙ y.there in
       let same : x.chip ≡ y.chip = cc in
-      let two : Some b' ≡ Some c' = sym x.its' ∙ ap₂ (λ (z : Entry) (q : List ℕ). block_at (end_of chips.blocks z) (is'.block q)) same p ∙ y.its' in
+      let two : Some b' ≡ Some c' = sym x.its' ∙ ap₂ (λ (z : Entry) (q : List ℕ). block_at (end_of chips.memories z) (is'.block q)) same p ∙ y.its' in
       cc
 
   part_of_block' : (b b' c c' : ℕ) → (x : Blocks b b') (y : Blocks c c') → (p : x.path ≡ y.path) → b ≡ c
   part_of_block' b b' c c' x y p =
       let one : Some x.chip ≡ Some y.chip = sym x.there ∙ ap (chip_at chips top) p ∙ y.there in
       let same : x.chip ≡ y.chip = cc in
-      let two : Some b ≡ Some c = sym x.its ∙ ap₂ (λ (z : Entry) (q : List ℕ). block_at (end_of chips.blocks z) (is.block q)) same p ∙ y.its in
+      let two : Some b ≡ Some c = sym x.its ∙ ap₂ (λ (z : Entry) (q : List ℕ). block_at (end_of chips.memories z) (is.block q)) same p ∙ y.its in
       cc
 
   pub same_block : (b b' c c' : ℕ) → Blocks b b' → Blocks c c' → nat_eq b c ≡ nat_eq b' c'

@@ -1,5 +1,5 @@
--- Two netlists of one chip, node by node as their directories name them: the same is done to both, and the same is seen of both. (The book,
--- chapters 1 to 3, and appendix 3.)
+-- Two netlists of one chip, node by node as their directories name them: the same is done to both, and the same is seen
+-- of both. (The book, chapters 1 to 3, and appendix 3.)
 use Rattle.std.specs.Prelude.{◌≡◌, ℕ, ◌<◌, ◌≤◌, Bool, List, [], ◌∷◌, Some, length, slice_get}
 use Rattle.hdl_tree.specs.declared.library.Entry.{Entry}
 use Rattle.hdl_tree.specs.Chips.{Chips, find_chip}
@@ -54,15 +54,15 @@ pub data SameCalls (top : Entry) (e e' : Elab) : List Call → List Call → Typ
   tick : {calls calls' : List Call} → SameCalls top e e' calls calls' → SameCalls top e e' (Tick ∷ calls) (Tick ∷ calls')
   tock : {calls calls' : List Call} → SameCalls top e e' calls calls' → SameCalls top e e' (Tock ∷ calls) (Tock ∷ calls')
 
--- In each cycle up to the one that the calls come to, pins and outputs of parts have the same values. The same words stand in blocks, after
--- these calls and after others that come to no later cycle.
+-- In each cycle up to the one that the calls come to, pins and outputs of parts have the same values. The same words
+-- stand in blocks, after these calls and after others that come to no later cycle.
 pub record ShowSame (top : Entry) (e e' : Elab) (calls calls' : List Call) (v v' : ℕ → ℕ → Bool) : Type 0 where
   pub pins : (k node node' c : ℕ) → SamePin e e' k node node' → c ≤ cycle_of calls → v node c ≡ v' node' c
   pub outs : (k node node' c : ℕ) → SameOut e e' k node node' → c ≤ cycle_of calls → v node c ≡ v' node' c
   pub words : (later later' : List Call) → SameCalls top e e' later later' → cycle_of later ≤ cycle_of calls → (b b' a : ℕ) → SameBlock e e' b b' → words_of e.net.blocks v later b a ≡ words_of e'.net.blocks v' later' b' a
 
--- Two elaborated netlists of a chip without faults, of which the first is in order, show the same after the same calls, whatever values are
--- theirs. So what is seen of a chip does not hang on which netlist of it runs.
+-- Two elaborated netlists of a chip without faults, of which the first is in order, show the same after the same calls,
+-- whatever values are theirs. So what is seen of a chip does not hang on which netlist of it runs.
 abbrev pub SameLaw : Type 0
 SameLaw =
     (chips : Chips) (name : List ℕ) (top : Entry) (e e' : Elab) → EndsHavePins chips → find_chip chips name ≡ Some top → HasNoFault chips top → IsElaborated chips top e → IsElaborated chips top e' → AreOrdered e.net.nodes e.net.blocks →

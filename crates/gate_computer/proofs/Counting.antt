@@ -1,11 +1,13 @@
 -- How many nodes a chip needs, by a table. Where the count of each chip of a library is given by those of its parts, so is that of a whole
 -- tree.
-use Rattle.std.proofs.Common.{◌≡◌, ◌+◌, ◌≤◌, ℕ, suc, Bool, true, false, List, [], ◌∷◌, ◌++◌, Some, refl, ap, ◌∙◌, arith}
+use Rattle.std.proofs.Common.{◌≡◌, ◌+◌, ◌≤◌, ℕ, suc, Bool, true, List, [], ◌∷◌, ◌++◌, Some, refl, ap, ◌∙◌, arith}
 use Rattle.std.specs.Prelude.{unwrap_or, nat_eq, nat_lt, codes, slice_get, if◌then◌else◌}
 use Rattle.std.proofs.lemmas.Bool.Decides.{Decides-eqb, Decides-ltb}
 use Rattle.hdl_tree.specs.declared.tree.Part.{Part}
 use Rattle.hdl_tree.specs.declared.library.Entry.{Entry}
-use Rattle.hdl_tree.specs.Chips.{Chips, find_chip, parts_of}
+use Rattle.hdl_tree.specs.declared.ends.Memories.{Memories}
+use Rattle.hdl_tree.specs.declared.ends.Memories.TheVariants.{Blocks, Gates}
+use Rattle.hdl_tree.specs.Chips.{are_blocks, Chips, find_chip, parts_of}
 use Rattle.hdl_tree.specs.Writable.{all}
 use Rattle.hdl_check.specs.Whole.{chips_in}
 use Rattle.name_table.specs.Names.{find_value}
@@ -71,64 +73,64 @@ module _ (chips : Chips) (table : List (List ℕ × ℕ)) where
 -- ---- the shipped chips
 
 -- the nodes of the ends in each of them, with blocks or with memories of gates
-abbrev table_of : Bool → List (List ℕ × ℕ)
-table_of blocks =
+abbrev table_of : Memories → List (List ℕ × ℕ)
+table_of memories =
     (codes "Nand", 1) ∷ (codes "Not", 1) ∷ (codes "And", 2) ∷ (codes "Or", 3) ∷ (codes "Xor", 4) ∷ (codes "Mux", 4) ∷ (codes "DMux", 5) ∷ (codes "Not16", 16) ∷ (codes "And16", 32) ∷ (codes "Or16", 48) ∷ (codes "Mux16", 64)
     ∷ (codes "Or8Way", 21) ∷ (codes "Mux4Way16", 192) ∷ (codes "Mux8Way16", 448) ∷ (codes "DMux4Way", 15) ∷ (codes "DMux8Way", 35)
     ∷ (codes "HalfAdder", 6) ∷ (codes "FullAdder", 15) ∷ (codes "Add16", 231) ∷ (codes "Inc16", 231) ∷ (codes "ALU", 741) ∷ (codes "Shift", 64)
     ∷ (codes "DFF", 1) ∷ (codes "Bit", 5) ∷ (codes "Register", 80) ∷ (codes "ARegister", 80) ∷ (codes "DRegister", 80) ∷ (codes "PC", 503)
-    ∷ (codes "RAM8", if blocks then 16 else 1123) ∷ (codes "RAM64", if blocks then 16 else 9467) ∷ (codes "RAM512", if blocks then 16 else 76219) ∷ (codes "RAM4K", if blocks then 16 else 610235)
-    ∷ (codes "RAM16K", if blocks then 16 else 2441147) ∷ (codes "Screen", if blocks then 16 else 1220539)
-    ∷ (codes "ROM32K", 16) ∷ (codes "Keyboard", 16) ∷ (codes "CPU", 1801) ∷ (codes "Memory", if blocks then 184 else 3661838) ∷ (codes "Computer", if blocks then 2001 else 3663655) ∷ []
+    ∷ (codes "RAM8", if are_blocks memories then 16 else 1123) ∷ (codes "RAM64", if are_blocks memories then 16 else 9467) ∷ (codes "RAM512", if are_blocks memories then 16 else 76219) ∷ (codes "RAM4K", if are_blocks memories then 16 else 610235)
+    ∷ (codes "RAM16K", if are_blocks memories then 16 else 2441147) ∷ (codes "Screen", if are_blocks memories then 16 else 1220539)
+    ∷ (codes "ROM32K", 16) ∷ (codes "Keyboard", 16) ∷ (codes "CPU", 1801) ∷ (codes "Memory", if are_blocks memories then 184 else 3661838) ∷ (codes "Computer", if are_blocks memories then 2001 else 3663655) ∷ []
 
-all_told : (blocks : Bool) → all (is_told (chips_in shipped_chips blocks) (table_of blocks)) shipped_chips ≡ true
+all_told : (memories : Memories) → all (is_told (chips_in shipped_chips memories) (table_of memories)) shipped_chips ≡ true
 unfolding opened
-all_told true = refl
-all_told false = refl
+all_told Blocks = refl
+all_told Gates = refl
 
-computer_told : (blocks : Bool) → diagnostic_in (chips_in shipped_chips blocks) (table_of blocks) (parts_of (chips_in shipped_chips blocks) computer) ≡ (if blocks then 2001 else 3663655)
+computer_told : (memories : Memories) → diagnostic_in (chips_in shipped_chips memories) (table_of memories) (parts_of (chips_in shipped_chips memories) computer) ≡ (if are_blocks memories then 2001 else 3663655)
 unfolding opened
-computer_told true = refl
-computer_told false = refl
+computer_told Blocks = refl
+computer_told Gates = refl
 
-count_by : (blocks : Bool) (tree : List PartIn) (n : ℕ) → part_nodes (chips_in shipped_chips blocks) tree ≡ n → node_count (chips_in shipped_chips blocks) computer tree ≡ n + 3
+count_by : (memories : Memories) (tree : List PartIn) (n : ℕ) → part_nodes (chips_in shipped_chips memories) tree ≡ n → node_count (chips_in shipped_chips memories) computer tree ≡ n + 3
 unfolding opened
-count_by blocks tree n e = omega (arith, e)
+count_by memories tree n e = omega (arith, e)
 
-computer_count : (blocks : Bool) (tree : List PartIn) → IsTree (chips_in shipped_chips blocks) computer tree → node_count (chips_in shipped_chips blocks) computer tree ≡ computer_nodes blocks
-computer_count true tree is = count_by true tree 2001 (nodes_in (chips_in shipped_chips true) (table_of true) (all_told true) 0 _ tree is ∙ computer_told true)
-computer_count false tree is = count_by false tree 3663655 (nodes_in (chips_in shipped_chips false) (table_of false) (all_told false) 0 _ tree is ∙ computer_told false)
+computer_count : (memories : Memories) (tree : List PartIn) → IsTree (chips_in shipped_chips memories) computer tree → node_count (chips_in shipped_chips memories) computer tree ≡ computer_nodes memories
+computer_count Blocks tree is = count_by Blocks tree 2001 (nodes_in (chips_in shipped_chips Blocks) (table_of Blocks) (all_told Blocks) 0 _ tree is ∙ computer_told Blocks)
+computer_count Gates tree is = count_by Gates tree 3663655 (nodes_in (chips_in shipped_chips Gates) (table_of Gates) (all_told Gates) 0 _ tree is ∙ computer_told Gates)
 
 -- ---- no shipped chip needs more
 
-abbrev count_of : Bool → Entry → ℕ
-count_of blocks chip = (bit_count chip.chip.inputs + told_of (chips_in shipped_chips blocks) (table_of blocks) chip.name) + 2
+abbrev count_of : Memories → Entry → ℕ
+count_of memories chip = (bit_count chip.chip.inputs + told_of (chips_in shipped_chips memories) (table_of memories) chip.name) + 2
 
-abbrev is_small : Bool → Entry → Bool
-is_small blocks chip = nat_lt (count_of blocks chip) (computer_nodes blocks + 1)
+abbrev is_small : Memories → Entry → Bool
+is_small memories chip = nat_lt (count_of memories chip) (computer_nodes memories + 1)
 
-all_small : (blocks : Bool) → all (is_small blocks) shipped_chips ≡ true
+all_small : (memories : Memories) → all (is_small memories) shipped_chips ≡ true
 unfolding opened
-all_small true = refl
-all_small false = refl
+all_small Blocks = refl
+all_small Gates = refl
 
-most : (blocks : Bool) (i : ℕ) (entry : Entry) (tree : List PartIn) → slice_get shipped_chips i ≡ Some entry → IsTree (chips_in shipped_chips blocks) entry tree → node_count (chips_in shipped_chips blocks) entry tree ≤ computer_nodes blocks
-most blocks i entry tree there is =
-    let n = count_at (chips_in shipped_chips blocks) (table_of blocks) (all_told blocks) i entry tree there is in
-    let small = (Decides-ltb (count_of blocks entry) (computer_nodes blocks + 1)).0 (all_at (is_small blocks) shipped_chips (all_small blocks) i entry there) in
+most : (memories : Memories) (i : ℕ) (entry : Entry) (tree : List PartIn) → slice_get shipped_chips i ≡ Some entry → IsTree (chips_in shipped_chips memories) entry tree → node_count (chips_in shipped_chips memories) entry tree ≤ computer_nodes memories
+most memories i entry tree there is =
+    let n = count_at (chips_in shipped_chips memories) (table_of memories) (all_told memories) i entry tree there is in
+    let small = (Decides-ltb (count_of memories entry) (computer_nodes memories + 1)).0 (all_at (is_small memories) shipped_chips (all_small memories) i entry there) in
     omega (arith, n, small)
 
 -- ---- nothing is wrong with any
 
-few_nodes : (blocks : Bool) (n : ℕ) → n ≤ computer_nodes blocks → n ≤ 16777216
-few_nodes true n le = omega (arith, le)
-few_nodes false n le = omega (arith, le)
+few_nodes : (memories : Memories) (n : ℕ) → n ≤ computer_nodes memories → n ≤ 16777216
+few_nodes Blocks n le = omega (arith, le)
+few_nodes Gates n le = omega (arith, le)
 
-fine : (blocks : Bool) (i : ℕ) (entry : Entry) → slice_get shipped_chips i ≡ Some entry → IsFine (chips_in shipped_chips blocks) entry
-fine blocks i entry there = record {
-  no_fault = no_fault blocks i entry there;
-  no_loop = (no_loop blocks i entry there).no_loop;
-  few = λ tree is. few_nodes blocks (node_count (chips_in shipped_chips blocks) entry tree) (most blocks i entry tree there is);
+fine : (memories : Memories) (i : ℕ) (entry : Entry) → slice_get shipped_chips i ≡ Some entry → IsFine (chips_in shipped_chips memories) entry
+fine memories i entry there = record {
+  no_fault = no_fault memories i entry there;
+  no_loop = (no_loop memories i entry there).no_loop;
+  few = λ tree is. few_nodes memories (node_count (chips_in shipped_chips memories) entry tree) (most memories i entry tree there is);
 }
 
 only_memory : (chips : Chips) (entry : Entry) (f : ElaborationFault) → IsFine chips entry → IsFaultOf chips entry f → f ≡ faults.Memory
@@ -142,5 +144,5 @@ nodes = record {
   count = computer_count;
   most = most;
   fine = fine;
-  no_fault = λ blocks i entry f there h. only_memory (chips_in shipped_chips blocks) entry f (fine blocks i entry there) h;
+  no_fault = λ memories i entry f there h. only_memory (chips_in shipped_chips memories) entry f (fine memories i entry there) h;
 }

@@ -18,6 +18,7 @@ use Rattle.image_map.proofs.Holding.{holds_before, holds_last, one_longer, key_a
 use Rattle.image_map.proofs.Tallying.{machine_pc}
 use Rattle.hdl_tree.specs.declared.library.Entry.{Entry}
 use Rattle.hdl_tree.specs.declared.ends.End.TheVariants as ends
+use Rattle.hdl_tree.specs.declared.ends.Memories.TheVariants.{Blocks}
 use Rattle.hdl_tree.specs.Memory.{number}
 use Rattle.hdl_tree.specs.Chips.{end_of}
 use Rattle.hdl_tree.specs.Behaviour.{Histories, chip_at}
@@ -139,7 +140,7 @@ module _ (sim : SimState) (w : Wiring) (image : List ℕ) (key : ℕ) (turns : L
   own_runs : HoldsKeys keys 0 turns → Runs sim.net own_inputs (length turns) told.calls
   own_runs holds = told.runs keys own_inputs holds (own_comes (length turns))
 
-  block_is : HoldsKeys keys 0 turns → (path : List ℕ) (c : Entry) (bits b : ℕ) → chip_at chips computer path ≡ Some c → end_of true c ≡ Some (ends.Block bits) → b ≡ told.seen.wired.block path → (a : ℕ)
+  block_is : HoldsKeys keys 0 turns → (path : List ℕ) (c : Entry) (bits b : ℕ) → chip_at chips computer path ≡ Some c → end_of Blocks c ≡ Some (ends.Block bits) → b ≡ told.seen.wired.block path → (a : ℕ)
       → stored_at sim.memory b a ≡ block_word bits (own_wires path) (length turns) a
   block_is holds path c bits b found is e a =
       let n = length turns in

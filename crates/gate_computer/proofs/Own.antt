@@ -1,5 +1,5 @@
 -- The values of the netlist of the Computer are a behaviour of it.
-use Rattle.std.proofs.Common.{◌≡◌, ◌≢◌, ◌<◌, ◌≤◌, ◌+◌, ◌-◌, ℕ, Bool, true, List, [], ◌∷◌, ◌++◌, length, Option, Some, None, refl, inl, inr, ap, ◌∙◌, sym, subst, arith, eq-eqb, ne_eqb}
+use Rattle.std.proofs.Common.{◌≡◌, ◌≢◌, ◌<◌, ◌≤◌, ◌+◌, ◌-◌, ℕ, Bool, List, [], ◌∷◌, ◌++◌, length, Option, Some, None, refl, inl, inr, ap, ◌∙◌, sym, subst, arith, eq-eqb, ne_eqb}
 use Rattle.std.specs.Prelude.{◌&&◌, if◌then◌else◌, nat_le, nat_lt, slice_get, slice_index, codes, MatchOption}
 use Rattle.std.specs.List.{All}
 use Rattle.std.proofs.lemmas.Bool.{cases_lt, le-leb, lt-ltb, le-ltb}
@@ -9,6 +9,7 @@ use Rattle.simulation.specs.System.{IsKey}
 use Rattle.hdl_tree.specs.declared.library.Entry.{Entry}
 use Rattle.hdl_tree.specs.declared.ends.End.{End}
 use Rattle.hdl_tree.specs.declared.ends.End.TheVariants as ends
+use Rattle.hdl_tree.specs.declared.ends.Memories.TheVariants.{Blocks}
 use Rattle.hdl_tree.specs.Memory.{number}
 use Rattle.hdl_tree.specs.Chips.{end_of}
 use Rattle.hdl_tree.specs.Behaviour.{Histories, ChipWired, chip_at}
@@ -77,7 +78,7 @@ module _ (net : Net) (w : Wiring) (wired : IsWired net w) where
   abbrev pub wires_of : (ℕ → ℕ → Bool) → List ℕ → Histories
   wires_of v = λ path name bit c. v (wired.at path name bit) c
 
-  end_stands : (path : List ℕ) (c : Entry) (e : End) → chip_at chips computer path ≡ Some c → end_of true c ≡ Some e → EndStands net wired.low (wired.block path) e (wired.at path)
+  end_stands : (path : List ℕ) (c : Entry) (e : End) → chip_at chips computer path ≡ Some c → end_of Blocks c ≡ Some e → EndStands net wired.low (wired.block path) e (wired.at path)
   end_stands path c e found is =
       subst (λ o. ChipWired wired.low wired.high chips c o (wired.at path) (λ i. wired.at (path ++ i ∷ [])) (λ x. EndStands net wired.low (wired.block path) x (wired.at path))) is
       (wired.numbering.wired path c found)
@@ -85,11 +86,11 @@ module _ (net : Net) (w : Wiring) (wired : IsWired net w) where
   rom_there : slice_get net.blocks w.rom ≡ Some (rom_block wired.low (wired.at rom_path))
   rom_there = ap (slice_get net.blocks) wired.blocks.rom ∙ (end_stands rom_path (shipped_entry rom_tree) ends.Rom rom_stands.0 rom_stands.1).there
 
-  pub memory_there : (path : List ℕ) (c : Entry) (bits : ℕ) → chip_at chips computer path ≡ Some c → end_of true c ≡ Some (ends.Block bits)
+  pub memory_there : (path : List ℕ) (c : Entry) (bits : ℕ) → chip_at chips computer path ≡ Some c → end_of Blocks c ≡ Some (ends.Block bits)
       → BlockStands net (wired.block path) (memory_block bits (wired.at path)) (wired.at path)
   memory_there path c bits found is = end_stands path c (ends.Block bits) found is
 
-  pub not_rom : (path : List ℕ) (c : Entry) (bits : ℕ) → chip_at chips computer path ≡ Some c → end_of true c ≡ Some (ends.Block bits) → w.rom ≢ wired.block path
+  pub not_rom : (path : List ℕ) (c : Entry) (bits : ℕ) → chip_at chips computer path ≡ Some c → end_of Blocks c ≡ Some (ends.Block bits) → w.rom ≢ wired.block path
   unfolding data_size
   not_rom path c bits found is e =
       let same = ap data_size (sym rom_there ∙ ap (slice_get net.blocks) e ∙ (memory_there path c bits found is).there) in
@@ -155,7 +156,7 @@ module _ (net : Net) (w : Wiring) (wired : IsWired net w) where
           (λ k near. ap (h.pin c) (sym (key_node k near)) ∙ (comes.pins c less).bits k (omega (arith, near, wide)))
           ∙ number_word (keys c) (words c less)
 
-      hears_end : (path : List ℕ) (c : Entry) (e : End) → chip_at chips computer path ≡ Some c → end_of true c ≡ Some e → EndHears (outside image keys) h n (wired.block path) e (wired.at path)
+      hears_end : (path : List ℕ) (c : Entry) (e : End) → chip_at chips computer path ≡ Some c → end_of Blocks c ≡ Some e → EndHears (outside image keys) h n (wired.block path) e (wired.at path)
       hears_end path c ends.Nand found is = tt
       hears_end path c ends.Dff found is = tt
       hears_end path c ends.Keyboard found is = λ d less.

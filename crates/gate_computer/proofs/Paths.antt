@@ -8,6 +8,7 @@ use Rattle.hdl_tree.specs.declared.tree.Part.{Part}
 use Rattle.hdl_tree.specs.declared.library.Entry.{Entry}
 use Rattle.hdl_tree.specs.declared.ends.End.{End}
 use Rattle.hdl_tree.specs.declared.ends.End.TheVariants as ends
+use Rattle.hdl_tree.specs.declared.ends.Memories.TheVariants.{Blocks}
 use Rattle.hdl_tree.specs.Writable.{all}
 use Rattle.hdl_tree.specs.Chips.{end_of, find_entry, parts_of}
 use Rattle.hdl_tree.specs.Behaviour.{chip_at, inner_chip, chip_of}
@@ -43,7 +44,7 @@ is_quiet (Some (ends.Block bits)) = true
 
 -- each other chip is none, and its parts are other chips
 is_fine : Entry → Bool
-is_fine e = has_own e.name || (is_quiet (end_of true e) && all (λ part. not (has_own part.chip)) (parts_of chips e))
+is_fine e = has_own e.name || (is_quiet (end_of Blocks e) && all (λ part. not (has_own part.chip)) (parts_of chips e))
 
 all_fine : all is_fine shipped_chips ≡ true
 unfolding has_own is_quiet is_fine end_of shipped_chips nand_tree not_tree and_tree or_tree xor_tree mux_tree dmux_tree not16_tree and16_tree or16_tree mux16_tree or8way_tree mux4way16_tree mux8way16_tree dmux4way_tree dmux8way_tree half_adder_tree full_adder_tree add16_tree inc16_tree alu_tree shift_tree dff_tree bit_tree register_tree a_register_tree d_register_tree pc_tree ram8_tree ram64_tree ram512_tree ram4k_tree ram16k_tree screen_tree rom_tree keyboard_tree cpu_tree memory_tree computer_tree
@@ -90,12 +91,12 @@ record IsQuiet (e : Entry) : Type 0 where
   fine : is_fine e ≡ true
   other : has_own e.name ≡ false
 
-quiet_rest : (e : Entry) → IsQuiet e → (is_quiet (end_of true e) && all (λ part. not (has_own part.chip)) (parts_of chips e)) ≡ true
+quiet_rest : (e : Entry) → IsQuiet e → (is_quiet (end_of Blocks e) && all (λ part. not (has_own part.chip)) (parts_of chips e)) ≡ true
 unfolding is_fine
 quiet_rest e q = or_second (has_own e.name) _ q.other q.fine
 
-quiet_end : (e : Entry) → IsQuiet e → is_quiet (end_of true e) ≡ true
-quiet_end e q = and_first (is_quiet (end_of true e)) (all (λ part. not (has_own part.chip)) (parts_of chips e)) (quiet_rest e q)
+quiet_end : (e : Entry) → IsQuiet e → is_quiet (end_of Blocks e) ≡ true
+quiet_end e q = and_first (is_quiet (end_of Blocks e)) (all (λ part. not (has_own part.chip)) (parts_of chips e)) (quiet_rest e q)
 
 -- the chip of a name that is not theirs
 quiet_found : (name : List ℕ) (inner : Entry) → find_entry shipped_chips name ≡ Some inner → has_own name ≡ false → IsQuiet inner
@@ -109,7 +110,7 @@ quiet_part e inner i q found = by_part (slice_get (parts_of chips e) i) refl fou
     by_part : (o : Option Part) → slice_get (parts_of chips e) i ≡ o → chip_of chips o ≡ Some inner → IsQuiet inner
     by_part None at h = absurd (none-some inner h)
     by_part (Some part) at h =
-        let every = and_second (is_quiet (end_of true e)) (all (λ p. not (has_own p.chip)) (parts_of chips e)) (quiet_rest e q) in
+        let every = and_second (is_quiet (end_of Blocks e)) (all (λ p. not (has_own p.chip)) (parts_of chips e)) (quiet_rest e q) in
         quiet_found part.chip inner h (not_true (has_own part.chip) (all_at (λ p. not (has_own p.chip)) (parts_of chips e) i part every at))
 
 quiet_at : (path : List ℕ) (e c : Entry) → IsQuiet e → chip_at chips e path ≡ Some c → IsQuiet c
@@ -133,14 +134,14 @@ past e i path h = ap (λ (o : Option Part). elim (chip_of chips o) [ None ↦ No
 
 -- what the parts of the Computer and of Memory are
 record HasParts : Type 0 where
-  none : end_of true computer ≡ None
+  none : end_of Blocks computer ≡ None
   three : length (parts_of chips computer) ≡ 3
   cpu : inner_chip chips computer 0 ≡ Some (shipped_entry cpu_tree)
   rom : inner_chip chips computer 1 ≡ Some (shipped_entry rom_tree)
   memory : inner_chip chips computer 2 ≡ Some (shipped_entry memory_tree)
-  rom_end : end_of true (shipped_entry rom_tree) ≡ Some ends.Rom
+  rom_end : end_of Blocks (shipped_entry rom_tree) ≡ Some ends.Rom
   rom_parts : length (parts_of chips (shipped_entry rom_tree)) ≡ 0
-  memory_end : end_of true (shipped_entry memory_tree) ≡ None
+  memory_end : end_of Blocks (shipped_entry memory_tree) ≡ None
   eight : length (parts_of chips (shipped_entry memory_tree)) ≡ 8
   dmux : inner_chip chips (shipped_entry memory_tree) 0 ≡ Some (shipped_entry dmux_tree)
   not_chip : inner_chip chips (shipped_entry memory_tree) 1 ≡ Some (shipped_entry not_tree)
@@ -150,10 +151,10 @@ record HasParts : Type 0 where
   keyboard : inner_chip chips (shipped_entry memory_tree) 5 ≡ Some (shipped_entry keyboard_tree)
   mux : inner_chip chips (shipped_entry memory_tree) 6 ≡ Some (shipped_entry mux16_tree)
   mux_too : inner_chip chips (shipped_entry memory_tree) 7 ≡ Some (shipped_entry mux16_tree)
-  keyboard_end : end_of true (shipped_entry keyboard_tree) ≡ Some ends.Keyboard
+  keyboard_end : end_of Blocks (shipped_entry keyboard_tree) ≡ Some ends.Keyboard
   keyboard_parts : length (parts_of chips (shipped_entry keyboard_tree)) ≡ 0
-  main_end : end_of true (shipped_entry ram16k_tree) ≡ Some (ends.Block 14)
-  screen_end : end_of true (shipped_entry screen_tree) ≡ Some (ends.Block 13)
+  main_end : end_of Blocks (shipped_entry ram16k_tree) ≡ Some (ends.Block 14)
+  screen_end : end_of Blocks (shipped_entry screen_tree) ≡ Some (ends.Block 13)
   cpu_quiet : IsQuiet (shipped_entry cpu_tree)
   dmux_quiet : IsQuiet (shipped_entry dmux_tree)
   not_quiet : IsQuiet (shipped_entry not_tree)
@@ -199,7 +200,7 @@ has_parts = record {
 pub Found : End → List ℕ → Type 0
 Found x path = ((path ≡ rom_path) × (x ≡ ends.Rom)) ⊎ ((path ≡ keyboard_path) × (x ≡ ends.Keyboard))
 
-module _ (x : End) (loud : is_quiet (Some x) ≡ false) (c : Entry) (is : end_of true c ≡ Some x) where
+module _ (x : End) (loud : is_quiet (Some x) ≡ false) (c : Entry) (is : end_of Blocks c ≡ Some x) where
   unquiet : IsQuiet c → ⊥
   unquiet q = let a = quiet_end c q in let b = ap is_quiet is in cc
 
@@ -207,8 +208,8 @@ module _ (x : End) (loud : is_quiet (Some x) ≡ false) (c : Entry) (is : end_of
   in_quiet e inner i path at q found = unquiet (quiet_at path inner c q (sym (through e inner i path at) ∙ found))
 
   -- it is that chip itself
-  itself : (e : Entry) (o : Option End) → end_of true e ≡ o → chip_at chips e [] ≡ Some c → Some x ≡ o
-  itself e o at found = sym is ∙ ap (end_of true) (sym (some_is e c found)) ∙ at
+  itself : (e : Entry) (o : Option End) → end_of Blocks e ≡ o → chip_at chips e [] ≡ Some c → Some x ≡ o
+  itself e o at found = sym is ∙ ap (end_of Blocks) (sym (some_is e c found)) ∙ at
 
   beyond : (e : Entry) (i : ℕ) (path : List ℕ) → length (parts_of chips e) ≤ i → chip_at chips e (i ∷ path) ≡ Some c → ⊥
   beyond e i path h found = none-some c (sym (past e i path h) ∙ found)
@@ -241,11 +242,11 @@ module _ (x : End) (loud : is_quiet (Some x) ≡ false) (c : Entry) (is : end_of
   in_computer (suc (suc (suc i)) ∷ path) found = absurd (beyond computer (suc (suc (suc i))) path (let e = has_parts.three in omega (arith, e)) found)
 
 -- the only instruction memory is part 1 of the Computer, and the only keyboard is part 5 of Memory
-pub rom_is : (path : List ℕ) (c : Entry) → chip_at chips computer path ≡ Some c → end_of true c ≡ Some ends.Rom → path ≡ rom_path
+pub rom_is : (path : List ℕ) (c : Entry) → chip_at chips computer path ≡ Some c → end_of Blocks c ≡ Some ends.Rom → path ≡ rom_path
 unfolding is_quiet Found
 rom_is path c found is = elim (in_computer ends.Rom refl c is path found) [ inl p ↦ p.0 | inr p ↦ absurd (let e = p.1 in cc) ]
 
-pub keyboard_is : (path : List ℕ) (c : Entry) → chip_at chips computer path ≡ Some c → end_of true c ≡ Some ends.Keyboard → path ≡ keyboard_path
+pub keyboard_is : (path : List ℕ) (c : Entry) → chip_at chips computer path ≡ Some c → end_of Blocks c ≡ Some ends.Keyboard → path ≡ keyboard_path
 unfolding is_quiet Found
 keyboard_is path c found is = elim (in_computer ends.Keyboard refl c is path found) [ inl p ↦ absurd (let e = p.1 in cc) | inr p ↦ p.0 ]
 
@@ -254,14 +255,14 @@ keyboard_is path c found is = elim (in_computer ends.Keyboard refl c is path fou
 at_two : (i j : ℕ) (inner c : Entry) → inner_chip chips computer i ≡ Some inner → inner_chip chips inner j ≡ Some c → chip_at chips computer (i ∷ j ∷ []) ≡ Some c
 at_two i j inner c e f = through computer inner i (j ∷ []) e ∙ through inner c j [] f
 
-pub rom_stands : (chip_at chips computer rom_path ≡ Some (shipped_entry rom_tree)) × (end_of true (shipped_entry rom_tree) ≡ Some ends.Rom)
+pub rom_stands : (chip_at chips computer rom_path ≡ Some (shipped_entry rom_tree)) × (end_of Blocks (shipped_entry rom_tree) ≡ Some ends.Rom)
 rom_stands = (through computer (shipped_entry rom_tree) 1 [] has_parts.rom, has_parts.rom_end)
 
-pub main_stands : (chip_at chips computer main_path ≡ Some (shipped_entry ram16k_tree)) × (end_of true (shipped_entry ram16k_tree) ≡ Some (ends.Block 14))
+pub main_stands : (chip_at chips computer main_path ≡ Some (shipped_entry ram16k_tree)) × (end_of Blocks (shipped_entry ram16k_tree) ≡ Some (ends.Block 14))
 main_stands = (at_two 2 3 _ _ has_parts.memory has_parts.ram16k, has_parts.main_end)
 
-pub screen_stands : (chip_at chips computer screen_path ≡ Some (shipped_entry screen_tree)) × (end_of true (shipped_entry screen_tree) ≡ Some (ends.Block 13))
+pub screen_stands : (chip_at chips computer screen_path ≡ Some (shipped_entry screen_tree)) × (end_of Blocks (shipped_entry screen_tree) ≡ Some (ends.Block 13))
 screen_stands = (at_two 2 4 _ _ has_parts.memory has_parts.screen, has_parts.screen_end)
 
-pub keyboard_stands : (chip_at chips computer keyboard_path ≡ Some (shipped_entry keyboard_tree)) × (end_of true (shipped_entry keyboard_tree) ≡ Some ends.Keyboard)
+pub keyboard_stands : (chip_at chips computer keyboard_path ≡ Some (shipped_entry keyboard_tree)) × (end_of Blocks (shipped_entry keyboard_tree) ≡ Some ends.Keyboard)
 keyboard_stands = (at_two 2 5 _ _ has_parts.memory has_parts.keyboard, has_parts.keyboard_end)

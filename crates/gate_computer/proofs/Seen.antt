@@ -1,5 +1,5 @@
 -- The Computer is seen as the instruction machine is.
-use Rattle.std.proofs.Common.{ℕ, ◌<◌, true, List, refl, ap, ◌∙◌, arith}
+use Rattle.std.proofs.Common.{ℕ, ◌<◌, List, refl, ap, ◌∙◌, arith}
 use Rattle.std.specs.Prelude.{slice_index}
 use Rattle.hack_isa.specs.Machine.{machine_at}
 use Rattle.simulation.specs.Laws.{SameTrace}
@@ -7,6 +7,7 @@ use Rattle.simulation.proofs.Traces.{same_counts}
 use Rattle.simulation.proofs.Following.{following_too}
 use Rattle.image_map.specs.Map.{Map}
 use Rattle.image_map.specs.Computer.{reads_key, run_trace, run_word}
+use Rattle.hdl_tree.specs.declared.ends.Memories.TheVariants.{Blocks}
 use Rattle.hdl_tree.specs.Behaviour.{Histories}
 use Rattle.hack_cpu.specs.Library.{shipped_chips}
 use Rattle.hack_cpu.specs.Computer.{of_blocks, Shows, a_at, word_at}
@@ -17,7 +18,7 @@ use Rattle.gate_computer.specs.Laws.{SeenLaw, GatesLaw}
 
 module _ (image : List ℕ) (keys : ℕ → ℕ) (m : ℕ) (wires : List ℕ → Histories) (is : IsComputer image keys m wires) where
   pub shows_at : (c : ℕ) → c < m → Shows wires c (machine_at image keys c)
-  shows_at c lt = same image keys (of_blocks shipped_chips) (has_all true) m wires is.behaves is.no_reset c lt
+  shows_at c lt = same image keys (of_blocks shipped_chips) (has_all Blocks) m wires is.behaves is.no_reset c lt
 
   pub same_trace : (map : Map) (n : ℕ) → n < m → SameTrace (trace_shown image map keys wires) (run_trace image map keys) n
   same_trace map n lt = record {

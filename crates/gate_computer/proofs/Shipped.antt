@@ -1,7 +1,9 @@
 -- What elaboration asks of the Computer among the shipped chips.
-use Rattle.std.proofs.Common.{◌≡◌, ℕ, Bool, true, List, IsSome, refl, sym, subst}
+use Rattle.std.proofs.Common.{◌≡◌, ℕ, List, IsSome, refl, sym, subst}
 use Rattle.std.specs.Prelude.{codes}
 use Rattle.hdl_tree.specs.declared.library.Entry.{Entry}
+use Rattle.hdl_tree.specs.declared.ends.Memories.{Memories}
+use Rattle.hdl_tree.specs.declared.ends.Memories.TheVariants.{Blocks}
 use Rattle.hdl_check.specs.Whole.{chips_in}
 use Rattle.hdl_behaviours.proofs.Clean.{find_in}
 use Rattle.hdl_flatten.specs.Flat.{NeedsFew}
@@ -18,26 +20,26 @@ use Rattle.gate_computer.proofs.Counting.{nodes}
 
 -- ---- how many nodes
 
-few : (blocks : Bool) → NeedsFew (chips_in shipped_chips blocks) (codes "Computer")
-few blocks chip tree found is = let r = find_in shipped_chips (codes "Computer") chip found in (nodes.fine blocks r.place chip r.there).few tree is
+few : (memories : Memories) → NeedsFew (chips_in shipped_chips memories) (codes "Computer")
+few memories chip tree found is = let r = find_in shipped_chips (codes "Computer") chip found in (nodes.fine memories r.place chip r.there).few tree is
 
 -- ---- all
 
 pub can_be_net : BuildableLaw
-can_be_net blocks = record {
+can_be_net memories = record {
   distinct = faces.distinct;
-  there = subst (λ o. IsSome o) (sym (has_all blocks).computer) refl;
-  faultless = λ entry found. let r = find_in shipped_chips (codes "Computer") entry found in no_fault blocks r.place entry r.there;
-  ends = ends_have_pins blocks;
-  few = few blocks;
-  no_loop = λ top found nets. let r = find_in shipped_chips (codes "Computer") top found in (no_loop blocks r.place top r.there).no_loop nets;
+  there = subst (λ o. IsSome o) (sym (has_all memories).computer) refl;
+  faultless = λ entry found. let r = find_in shipped_chips (codes "Computer") entry found in no_fault memories r.place entry r.there;
+  ends = ends_have_pins memories;
+  few = few memories;
+  no_loop = λ top found nets. let r = find_in shipped_chips (codes "Computer") top found in (no_loop memories r.place top r.there).no_loop nets;
 }
 
 -- the same of a library that has these chips, and of this name
-pub built_of : (entries : List Entry) (name : List ℕ) → entries ≡ shipped_chips → name ≡ codes "Computer" → CanBeNet entries true name
-built_of entries name e f = subst (λ n. CanBeNet entries true n) (sym f) (subst (λ es. CanBeNet es true (codes "Computer")) (sym e) (can_be_net true))
+pub built_of : (entries : List Entry) (name : List ℕ) → entries ≡ shipped_chips → name ≡ codes "Computer" → CanBeNet entries Blocks name
+built_of entries name e f = subst (λ n. CanBeNet entries Blocks n) (sym f) (subst (λ es. CanBeNet es Blocks (codes "Computer")) (sym e) (can_be_net Blocks))
 
 -- what is elaborated under this name is the Computer
-pub computer_found : (entries : List Entry) (name : List ℕ) → entries ≡ shipped_chips → name ≡ codes "Computer" → (e : Elab) → TopIsElaborated (chips_in entries true) name e → IsElaborated chips computer e
+pub computer_found : (entries : List Entry) (name : List ℕ) → entries ≡ shipped_chips → name ≡ codes "Computer" → (e : Elab) → TopIsElaborated (chips_in entries Blocks) name e → IsElaborated chips computer e
 computer_found entries name same named e is =
-    subst (λ n. TopIsElaborated (chips_in shipped_chips true) n e) named (subst (λ es. TopIsElaborated (chips_in es true) name e) same is) computer (has_all true).computer
+    subst (λ n. TopIsElaborated (chips_in shipped_chips Blocks) n e) named (subst (λ es. TopIsElaborated (chips_in es Blocks) name e) same is) computer (has_all Blocks).computer

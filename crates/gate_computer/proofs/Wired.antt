@@ -8,6 +8,7 @@ use Rattle.std.proofs.lemmas.List.Elements.{All-head, All-tail, All-drop, All-sa
 use Rattle.hdl_tree.specs.declared.library.Entry.{Entry}
 use Rattle.hdl_tree.specs.declared.ends.End.TheVariants as ends
 use Rattle.hdl_tree.specs.declared.tree.Chip.{Chip}
+use Rattle.hdl_tree.specs.declared.ends.Memories.TheVariants.{Blocks}
 use Rattle.hdl_tree.specs.Chips.{find_entry, parts_of}
 use Rattle.hdl_tree.specs.Behaviour.{Wires, Each}
 use Rattle.netlist.specs.Net.{Net}
@@ -89,22 +90,22 @@ module _ (net : Net) (pins : List PinAt) (parts : List PartAt) (flat : IsFlat ch
   once = stand_once flat.tree flat.listed
 
   cpu_first : first_named (codes "CPU") parts ≡ Some (told_at cpu_path cpu_tree)
-  cpu_first = ap (first_named (codes "CPU")) flat.parts ∙ first_part chips flat.at flat.block (codes "CPU") (shipped_entry cpu_tree) flat.tree cpu_path found (has_all true).cpu once.cpu
+  cpu_first = ap (first_named (codes "CPU")) flat.parts ∙ first_part chips flat.at flat.block (codes "CPU") (shipped_entry cpu_tree) flat.tree cpu_path found (has_all Blocks).cpu once.cpu
 
   a_first : first_named (codes "ARegister") parts ≡ Some (told_at a_register_path a_register_tree)
-  a_first = ap (first_named (codes "ARegister")) flat.parts ∙ first_part chips flat.at flat.block (codes "ARegister") (shipped_entry a_register_tree) flat.tree a_register_path found (has_all true).memories.a_register once.a_register
+  a_first = ap (first_named (codes "ARegister")) flat.parts ∙ first_part chips flat.at flat.block (codes "ARegister") (shipped_entry a_register_tree) flat.tree a_register_path found (has_all Blocks).memories.a_register once.a_register
 
   rom_first : first_named (codes "ROM32K") parts ≡ Some (told_at rom_path rom_tree)
-  rom_first = ap (first_named (codes "ROM32K")) flat.parts ∙ first_part chips flat.at flat.block (codes "ROM32K") (shipped_entry rom_tree) flat.tree rom_path found (has_all true).rom once.rom
+  rom_first = ap (first_named (codes "ROM32K")) flat.parts ∙ first_part chips flat.at flat.block (codes "ROM32K") (shipped_entry rom_tree) flat.tree rom_path found (has_all Blocks).rom once.rom
 
   main_first : first_named (codes "RAM16K") parts ≡ Some (told_at main_path ram16k_tree)
-  main_first = ap (first_named (codes "RAM16K")) flat.parts ∙ first_part chips flat.at flat.block (codes "RAM16K") (shipped_entry ram16k_tree) flat.tree main_path found (has_all true).memories.ram16k once.main
+  main_first = ap (first_named (codes "RAM16K")) flat.parts ∙ first_part chips flat.at flat.block (codes "RAM16K") (shipped_entry ram16k_tree) flat.tree main_path found (has_all Blocks).memories.ram16k once.main
 
   screen_first : first_named (codes "Screen") parts ≡ Some (told_at screen_path screen_tree)
-  screen_first = ap (first_named (codes "Screen")) flat.parts ∙ first_part chips flat.at flat.block (codes "Screen") (shipped_entry screen_tree) flat.tree screen_path found (has_all true).memories.screen once.screen
+  screen_first = ap (first_named (codes "Screen")) flat.parts ∙ first_part chips flat.at flat.block (codes "Screen") (shipped_entry screen_tree) flat.tree screen_path found (has_all Blocks).memories.screen once.screen
 
   keyboard_first : first_named (codes "Keyboard") parts ≡ Some (told_at keyboard_path keyboard_tree)
-  keyboard_first = ap (first_named (codes "Keyboard")) flat.parts ∙ first_part chips flat.at flat.block (codes "Keyboard") (shipped_entry keyboard_tree) flat.tree keyboard_path found (has_all true).keyboard once.keyboard
+  keyboard_first = ap (first_named (codes "Keyboard")) flat.parts ∙ first_part chips flat.at flat.block (codes "Keyboard") (shipped_entry keyboard_tree) flat.tree keyboard_path found (has_all Blocks).keyboard once.keyboard
 
   rom_block : block_named (codes "ROM32K") parts ≡ Some (flat.block rom_path)
   rom_block = ap block_in rom_first ∙ ap (λ o. block_at o (flat.block rom_path)) rom_stands.1

@@ -111,7 +111,8 @@ impl GateComputer {
         requires { self.old.moves < 2 ^ 63 }
         ensures image { image_in self.new ≡ image_in self.old }
         ensures moves { self.new.moves ≡ self.old.moves + 1 }
-        ensures stands { (turns : List Turn) → HasFollowed self.old turns → HasFollowed self.new (turns ++ turn key Acted ∷ []) }
+        ensures stands { (turns : List Turn) → HasFollowed self.old turns
+            → HasFollowed self.new (turns ++ turn key Acted ∷ []) }
         ensures wiring { self.new.wiring ≡ self.old.wiring }
         ensures net { self.new.sim.net ≡ self.old.sim.net }
     {

@@ -18,7 +18,9 @@ use word16::{KEYBOARD, bit};
 fn set_pin(sim: &mut Sim, node: u32, old: bool, new: bool)
     requires { slice_get sim.old.net.nodes node ≡ Some Pin }
     ensures net { sim.new.net ≡ sim.old.net }
-    ensures told { (calls : List Call) → StandsFor sim.old calls → pins_of sim.old.net.nodes calls node ≡ old → HasSet sim.new calls (ChangesPin sim.old.net.nodes calls node new) }
+    ensures told { (calls : List Call)
+        → StandsFor sim.old calls → pins_of sim.old.net.nodes calls node ≡ old
+        → HasSet sim.new calls (ChangesPin sim.old.net.nodes calls node new) }
 {
     if old != new {
         sim.set(node, new);
@@ -29,9 +31,12 @@ fn set_pin(sim: &mut Sim, node: u32, old: bool, new: bool)
 pub fn set_keyboard(sim: &mut Sim, keyboard: &[u32], old: u16, key: u16)
     requires pins { All (λ node. slice_get sim.old.net.nodes node ≡ Some Pin) keyboard.now }
     requires wide { length keyboard.now ≡ 16 }
-    requires apart { (j k : ℕ) → j < k → k < length keyboard.now → slice_index keyboard.now j ≢ slice_index keyboard.now k }
+    requires apart { (j k : ℕ) → j < k → k < length keyboard.now
+        → slice_index keyboard.now j ≢ slice_index keyboard.now k }
     ensures net { sim.new.net ≡ sim.old.net }
-    ensures told { (calls : List Call) → StandsFor sim.old calls → HoldsKey keyboard.now old (pins_of sim.old.net.nodes calls) → HasSet sim.new calls (HoldsKey keyboard.now key) }
+    ensures told { (calls : List Call)
+        → StandsFor sim.old calls → HoldsKey keyboard.now old (pins_of sim.old.net.nodes calls)
+        → HasSet sim.new calls (HoldsKey keyboard.now key) }
 {
     for k in 0..keyboard.len() {
         set_pin(sim, keyboard[k], bit(old, k as u16), bit(key, k as u16));
@@ -74,7 +79,8 @@ fn word_of(image: &[u16], at: u16) -> u16
 pub fn hears_key(sim: &Sim, a: &[u32], image: &[u16], at: u16) -> bool
     requires wide { length a.now ≤ 16 }
     requires there { All (λ node. node < length sim.now.net.nodes) a.now }
-    ensures { result ≡ reads_key (slice_index image.now at) (spelled_number (value_in sim.now.values) a.now) }
+    ensures { result
+        ≡ reads_key (slice_index image.now at) (spelled_number (value_in sim.now.values) a.now) }
 {
     let word = word_of(image, at);
     bit(word, 15) && bit(word, 12) && number_at(sim, a) == KEYBOARD

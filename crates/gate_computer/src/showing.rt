@@ -22,7 +22,9 @@ fn digit(bit: bool) -> u8
 fn put_digits<S: Sink>(sim: &Sim, nodes: &[u32], out: &mut Pieces<'_, S>) -> Put
     requires { All (λ node. node < length sim.now.net.nodes) nodes.now }
     ensures same_sink { HaveSameSink out.old out.new }
-    ensures passes { Passes (S.written (sink_of out.old)) (pending out.old) (S.written (sink_of out.new)) (pending out.new) (map (λ node. digit (value_in sim.now.values node)) nodes.now) result }
+    ensures passes { Passes (S.written (sink_of out.old))
+        (pending out.old) (S.written (sink_of out.new)) (pending out.new)
+        (map (λ node. digit (value_in sim.now.values node)) nodes.now) result }
     ensures counts { CountsPut (S.faults (sink_of out.old)) (S.faults (sink_of out.new)) result }
 {
     for node in nodes {
@@ -38,7 +40,9 @@ fn put_digits<S: Sink>(sim: &Sim, nodes: &[u32], out: &mut Pieces<'_, S>) -> Put
 fn put_part<S: Sink>(sim: &Sim, part: &WiredPart, out: &mut Pieces<'_, S>) -> Put
     requires { All (λ node. node < length sim.now.net.nodes) part.now.outputs }
     ensures same_sink { HaveSameSink out.old out.new }
-    ensures passes { Passes (S.written (sink_of out.old)) (pending out.old) (S.written (sink_of out.new)) (pending out.new) (wired_line (value_in sim.now.values) part.now) result }
+    ensures passes { Passes (S.written (sink_of out.old))
+        (pending out.old) (S.written (sink_of out.new)) (pending out.new)
+        (wired_line (value_in sim.now.values) part.now) result }
     ensures counts { CountsPut (S.faults (sink_of out.old)) (S.faults (sink_of out.new)) result }
 {
     match out.put_all(&[part.chip.as_bytes(), b" "]) {
@@ -67,7 +71,9 @@ pub fn told_parts(wiring: &Wiring) -> &[WiredPart]
 pub fn put_parts<S: Sink>(sim: &Sim, parts: &[WiredPart], out: &mut Pieces<'_, S>) -> Put
     requires { ArePartsThere (length sim.now.net.nodes) parts.now }
     ensures same_sink { HaveSameSink out.old out.new }
-    ensures passes { Passes (S.written (sink_of out.old)) (pending out.old) (S.written (sink_of out.new)) (pending out.new) (wired_text (value_in sim.now.values) parts.now) result }
+    ensures passes { Passes (S.written (sink_of out.old))
+        (pending out.old) (S.written (sink_of out.new)) (pending out.new)
+        (wired_text (value_in sim.now.values) parts.now) result }
     ensures counts { CountsPut (S.faults (sink_of out.old)) (S.faults (sink_of out.new)) result }
 {
     for part in parts {

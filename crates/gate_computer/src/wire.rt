@@ -12,7 +12,7 @@ use crate::wiring::{WiredComputer, Wiring};
 use hack_cpu::library;
 use hdl_elab::{Elab, build_net};
 use hdl_flatten::PartAt;
-use hdl_tree::{Library, List, Name};
+use hdl_tree::{Library, List, Memories, Name};
 use std::alloc::{AllocError, Global};
 
 // The outputs of the CPU are outM, writeM, addressM and pc: this many bits stand before those of the
@@ -71,6 +71,6 @@ pub fn build_computer(alloc: Global) -> Result<WiredComputer, AllocError>
 {
     let library = library(alloc)?;
     let name = Name::from_bytes(alloc, b"Computer")?;
-    let elab = build_net(alloc, &library, &name, true)?;
+    let elab = build_net(alloc, &library, &name, Memories::Blocks)?;
     wire_computer(alloc, &library, elab)
 }

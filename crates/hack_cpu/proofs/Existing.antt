@@ -1,8 +1,9 @@
 -- Shipped chips have behaviours, since they have no faults and no loops.
-use Rattle.std.proofs.Common.{ℕ, zero, suc, ◌<◌, true, false, List, [], ◌∷◌, refl, arith}
+use Rattle.std.proofs.Common.{ℕ, zero, suc, ◌<◌, false, List, [], ◌∷◌, refl, arith}
 use Rattle.std.specs.Prelude.{slice_index, codes}
 use Rattle.std.specs.List.{All}
 use Rattle.std.proofs.lemmas.List.Elements.{All-head, All-tail}
+use Rattle.hdl_tree.specs.declared.ends.Memories.TheVariants.{Blocks}
 use Rattle.hdl_check.specs.Whole.{chips_in}
 use Rattle.hdl_plans.specs.Ways.{HasBit}
 use Rattle.hdl_behaviours.specs.Existence.{HasBehaviour}
@@ -18,9 +19,9 @@ use Rattle.hack_cpu.proofs.HasAll.{has_all}
 use Rattle.hack_cpu.proofs.Shown.{no_fault, no_loop}
 
 pub existing : ExistenceLaw
-existing blocks name entry found =
+existing memories name entry found =
     let r = find_in shipped_chips name entry found in
-    exists (chips_in shipped_chips blocks) name entry (faces.ends blocks) found (no_fault blocks r.place entry r.there) (no_loop blocks r.place entry r.there).no_loop
+    exists (chips_in shipped_chips memories) name entry (faces.ends memories) found (no_fault memories r.place entry r.there) (no_loop memories r.place entry r.there).no_loop
 
 word_in : (image : List ℕ) (a : ℕ) → All (λ w. w < 65536) image → slice_index image a < 65536
 word_in [] a h = omega arith
@@ -33,6 +34,6 @@ reset_bit = record { width = 1; there = refl; below = omega arith }
 
 pub runs : RunsLaw
 runs image keys n words held =
-    let b : HasBehaviour (outside image keys) (chips_in shipped_chips true) (shipped_entry computer_tree) n (λ name bit c. false) =
-    existing true (codes "Computer") (shipped_entry computer_tree) (has_all true).computer (outside image keys) (record { keys = held; words = λ a. word_in image a words }) n (λ name bit c. false) in
+    let b : HasBehaviour (outside image keys) (chips_in shipped_chips Blocks) (shipped_entry computer_tree) n (λ name bit c. false) =
+    existing Blocks (codes "Computer") (shipped_entry computer_tree) (has_all Blocks).computer (outside image keys) (record { keys = held; words = λ a. word_in image a words }) n (λ name bit c. false) in
     record { wires = b.wires; behaves = b.behaves; no_reset = λ c. b.hears (codes "reset") 0 c reset_bit }

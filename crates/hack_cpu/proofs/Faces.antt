@@ -8,6 +8,8 @@ use Rattle.hdl_tree.specs.declared.tree.Pin.{Pin}
 use Rattle.hdl_tree.specs.declared.library.Entry.{Entry}
 use Rattle.hdl_tree.specs.declared.ends.End.{End}
 use Rattle.hdl_tree.specs.declared.ends.End.TheVariants as ends
+use Rattle.hdl_tree.specs.declared.ends.Memories.{Memories}
+use Rattle.hdl_tree.specs.declared.ends.Memories.TheVariants.{Blocks, Gates}
 use Rattle.hdl_tree.specs.Chips.{end_of, pin_width}
 use Rattle.hdl_tree.specs.Behaviour.{Each, width_in}
 use Rattle.hdl_tree.specs.Writable.{all}
@@ -52,20 +54,20 @@ abbrev FitsEnd : Entry → Option End → Type 0
 FitsEnd entry None = Unit {0}
 FitsEnd entry (Some e) = ((face_of entry).inputs, (face_of entry).outputs) ≡ end_face e
 
-each_end : (blocks : Bool) → Each (λ entry. FitsEnd entry (end_of blocks entry)) shipped_chips
+each_end : (memories : Memories) → Each (λ entry. FitsEnd entry (end_of memories entry)) shipped_chips
 unfolding opened
-each_end true = (refl, (tt, (tt, (tt, (tt, (tt, (tt, (tt, (tt, (tt, (tt, (tt, (tt, (tt, (tt, (tt, (tt, (tt, (tt, (tt, (tt, (tt, (refl, (tt, (tt, (tt, (tt, (tt, (refl, (refl, (refl, (refl, (refl, (refl, (refl, (refl, (tt, (tt, (tt, tt)))))))))))))))))))))))))))))))))))))))
-each_end false = (refl, (tt, (tt, (tt, (tt, (tt, (tt, (tt, (tt, (tt, (tt, (tt, (tt, (tt, (tt, (tt, (tt, (tt, (tt, (tt, (tt, (tt, (refl, (tt, (tt, (tt, (tt, (tt, (tt, (tt, (tt, (tt, (tt, (tt, (refl, (refl, (tt, (tt, (tt, tt)))))))))))))))))))))))))))))))))))))))
+each_end Blocks = (refl, (tt, (tt, (tt, (tt, (tt, (tt, (tt, (tt, (tt, (tt, (tt, (tt, (tt, (tt, (tt, (tt, (tt, (tt, (tt, (tt, (tt, (refl, (tt, (tt, (tt, (tt, (tt, (refl, (refl, (refl, (refl, (refl, (refl, (refl, (refl, (tt, (tt, (tt, tt)))))))))))))))))))))))))))))))))))))))
+each_end Gates = (refl, (tt, (tt, (tt, (tt, (tt, (tt, (tt, (tt, (tt, (tt, (tt, (tt, (tt, (tt, (tt, (tt, (tt, (tt, (tt, (tt, (tt, (refl, (tt, (tt, (tt, (tt, (tt, (tt, (tt, (tt, (tt, (tt, (tt, (refl, (refl, (tt, (tt, (tt, tt)))))))))))))))))))))))))))))))))))))))
 
 each_get : {X : Type 0} (P : X → Type 0) (xs : List X) → Each P xs → (i : ℕ) (x : X) → slice_get xs i ≡ Some x → P x
 each_get P [] e i x h = absurd cc
 each_get P (y ∷ ys) e zero x h = let same : y ≡ x = cc in subst P same e.0
 each_get P (y ∷ ys) e (suc i) x h = each_get P ys e.1 i x h
 
-end_pins : (blocks : Bool) → HasEndPins (chips_in shipped_chips blocks)
-end_pins blocks name chip e find_value is =
+end_pins : (memories : Memories) → HasEndPins (chips_in shipped_chips memories)
+end_pins memories name chip e find_value is =
     let r = find_in shipped_chips name chip find_value in
-    subst (FitsEnd chip) is (each_get (λ entry. FitsEnd entry (end_of blocks entry)) shipped_chips (each_end blocks) r.place chip r.there)
+    subst (FitsEnd chip) is (each_get (λ entry. FitsEnd entry (end_of memories entry)) shipped_chips (each_end memories) r.place chip r.there)
 
 -- a name is an input where the ports have it
 width_by : (b : Bool) (w : ℕ) (o p : Option ℕ) → o ≡ p → cond b (Some w) o ≡ cond b (Some w) p
@@ -96,9 +98,9 @@ is_false : (b : Bool) → not b ≡ true → b ≡ false
 is_false true h = absurd cc
 is_false false h = refl
 
-has_ends : (blocks : Bool) → HasEnds (chips_in shipped_chips blocks)
-has_ends blocks = record {
-  fits = λ name chip e find_value is. fits_by chip e (end_pins blocks name chip e find_value is);
+has_ends : (memories : Memories) → HasEnds (chips_in shipped_chips memories)
+has_ends memories = record {
+  fits = λ name chip e find_value is. fits_by chip e (end_pins memories name chip e find_value is);
   apart = λ name chip e find_value is pin width there.
       let r = find_in shipped_chips name chip find_value in
       is_false (is_input chip pin) (pin_tells (λ x. not (is_input chip x)) chip.chip.outputs (all_at outputs_apart shipped_chips all_apart r.place chip r.there) pin width there);

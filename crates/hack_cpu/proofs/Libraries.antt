@@ -9,6 +9,7 @@ use Rattle.hdl_tree.specs.declared.library.Entry.{Entry}
 use Rattle.hdl_tree.specs.declared.tree.Chip.{Chip}
 use Rattle.hdl_tree.specs.declared.ends.End.{End}
 use Rattle.hdl_tree.specs.declared.ends.End.TheVariants as ends
+use Rattle.hdl_tree.specs.declared.ends.Memories.{Memories}
 use Rattle.hdl_tree.specs.Chips.{end_of, end_of_shipped, find_entry}
 use Rattle.hdl_check.specs.Whole.{AreDistinct, chips_in}
 use Rattle.hdl_behaviours.proofs.Clean.{find_in}
@@ -40,8 +41,8 @@ has_pins chip e h = record {
   outputs = ap (λ (p : List Port × List Port). p.1) h ∙ outputs_are e;
 }
 
-pub ends_have_pins : (blocks : Bool) → EndsHavePins (chips_in shipped_chips blocks)
-ends_have_pins blocks name chip e found is = has_pins chip e (faces.end_pins blocks name chip e found is)
+pub ends_have_pins : (memories : Memories) → EndsHavePins (chips_in shipped_chips memories)
+ends_have_pins memories name chip e found is = has_pins chip e (faces.end_pins memories name chip e found is)
 
 -- ---- a chip that is there is found
 
@@ -113,31 +114,31 @@ module _ (es : List Entry) (x : Entry) (lib : IsLibrary es) (none : find_entry e
 
 -- ---- the pins of ends in a library
 
-no_end : (blocks : Bool) (entry : Entry) (e : End) → entry.shipped ≡ None → end_of blocks entry ≡ Some e → ⊥
+no_end : (memories : Memories) (entry : Entry) (e : End) → entry.shipped ≡ None → end_of memories entry ≡ Some e → ⊥
 unfolding end_of
-no_end blocks entry e none is =
-    let same : end_of_shipped blocks entry.shipped ≡ None = ap (end_of_shipped blocks) none in
+no_end memories entry e none is =
+    let same : end_of_shipped memories entry.shipped ≡ None = ap (end_of_shipped memories) none in
     absurd cc
 
-same_end : (blocks : Bool) (a b : Entry) → a.shipped ≡ b.shipped → end_of blocks a ≡ end_of blocks b
+same_end : (memories : Memories) (a b : Entry) → a.shipped ≡ b.shipped → end_of memories a ≡ end_of memories b
 unfolding end_of
-same_end blocks a b same = ap (end_of_shipped blocks) same
+same_end memories a b same = ap (end_of_shipped memories) same
 
-shipped_pins : (blocks : Bool) (chip : Entry) (e : End) → IsShippedAs chip → end_of blocks chip ≡ Some e → HasPins chip e
-shipped_pins blocks chip e r is =
+shipped_pins : (memories : Memories) (chip : Entry) (e : End) → IsShippedAs chip → end_of memories chip ≡ Some e → HasPins chip e
+shipped_pins memories chip e r is =
     let found = itself_found shipped_chips r.place r.original faces.distinct r.there in
-    let h = ends_have_pins blocks r.original.name r.original e found (sym (same_end blocks chip r.original r.shipped) ∙ is) in
+    let h = ends_have_pins memories r.original.name r.original e found (sym (same_end memories chip r.original r.shipped) ∙ is) in
     record {
       inputs = subst (λ (c : Chip). named_pins c.inputs ≡ end_inputs e) (sym r.chip) h.inputs;
       outputs = subst (λ (c : Chip). named_pins c.outputs ≡ end_outputs e) (sym r.chip) h.outputs;
     }
 
-pub library_ends : (entries : List Entry) (blocks : Bool) → IsLibrary entries → EndsHavePins (chips_in entries blocks)
-library_ends entries blocks lib name chip e found is =
+pub library_ends : (entries : List Entry) (memories : Memories) → IsLibrary entries → EndsHavePins (chips_in entries memories)
+library_ends entries memories lib name chip e found is =
     let r = find_in entries name chip found in
     elim (lib.known r.place chip r.there) [
-      | inl none ↦ absurd (no_end blocks chip e none is)
-      | inr shipped ↦ shipped_pins blocks chip e shipped is
+      | inl none ↦ absurd (no_end memories chip e none is)
+      | inr shipped ↦ shipped_pins memories chip e shipped is
     ]
 
 -- ---- all

@@ -2,6 +2,8 @@
 use Rattle.std.proofs.Common.{◌≡◌, ℕ, Bool, true, false, List, [], ◌∷◌, ◌++◌, refl}
 use Rattle.std.specs.Prelude.{◌&&◌}
 use Rattle.hdl_tree.specs.declared.library.Entry.{Entry}
+use Rattle.hdl_tree.specs.declared.ends.Memories.{Memories}
+use Rattle.hdl_tree.specs.declared.ends.Memories.TheVariants.{Blocks, Gates}
 use Rattle.hdl_tree.specs.Writable.{all}
 use Rattle.hdl_check.specs.Whole.{chips_in}
 use Rattle.hdl_behaviours.specs.Clean.{is_clean, AreClean}
@@ -23,65 +25,65 @@ all-append test (x ∷ xs) ys h g = more (test x) (all test xs) (all test (xs ++
 
 -- ---- no fault
 
-basic_clean : (blocks : Bool) → all (is_clean (chips_in shipped_chips blocks)) basic_chips ≡ true
+basic_clean : (memories : Memories) → all (is_clean (chips_in shipped_chips memories)) basic_chips ≡ true
 unfolding opened
-basic_clean blocks = refl
+basic_clean memories = refl
 
-computing_clean : (blocks : Bool) → all (is_clean (chips_in shipped_chips blocks)) computing_chips ≡ true
+computing_clean : (memories : Memories) → all (is_clean (chips_in shipped_chips memories)) computing_chips ≡ true
 unfolding opened
-computing_clean blocks = refl
+computing_clean memories = refl
 
-memory_clean : (blocks : Bool) → all (is_clean (chips_in shipped_chips blocks)) memory_chips ≡ true
+memory_clean : (memories : Memories) → all (is_clean (chips_in shipped_chips memories)) memory_chips ≡ true
 unfolding opened
-memory_clean true = refl
-memory_clean false = refl
+memory_clean Blocks = refl
+memory_clean Gates = refl
 
-computer_clean : (blocks : Bool) → all (is_clean (chips_in shipped_chips blocks)) computer_chips ≡ true
+computer_clean : (memories : Memories) → all (is_clean (chips_in shipped_chips memories)) computer_chips ≡ true
 unfolding opened
-computer_clean blocks = refl
+computer_clean memories = refl
 
-pub clean : (blocks : Bool) → AreClean (chips_in shipped_chips blocks)
+pub clean : (memories : Memories) → AreClean (chips_in shipped_chips memories)
 unfolding shipped_chips
-clean blocks =
-    all_at (is_clean (chips_in shipped_chips blocks)) (basic_chips ++ (computing_chips ++ (memory_chips ++ computer_chips)))
-    (all-append (is_clean (chips_in shipped_chips blocks)) basic_chips (computing_chips ++ (memory_chips ++ computer_chips)) (basic_clean blocks)
-    (all-append (is_clean (chips_in shipped_chips blocks)) computing_chips (memory_chips ++ computer_chips) (computing_clean blocks) (all-append (is_clean (chips_in shipped_chips blocks)) memory_chips computer_chips (memory_clean blocks) (computer_clean blocks))))
+clean memories =
+    all_at (is_clean (chips_in shipped_chips memories)) (basic_chips ++ (computing_chips ++ (memory_chips ++ computer_chips)))
+    (all-append (is_clean (chips_in shipped_chips memories)) basic_chips (computing_chips ++ (memory_chips ++ computer_chips)) (basic_clean memories)
+    (all-append (is_clean (chips_in shipped_chips memories)) computing_chips (memory_chips ++ computer_chips) (computing_clean memories) (all-append (is_clean (chips_in shipped_chips memories)) memory_chips computer_chips (memory_clean memories) (computer_clean memories))))
 
 pub no_fault : FaultlessLaw
-no_fault blocks = clean_faultless (chips_in shipped_chips blocks) (clean blocks)
+no_fault memories = clean_faultless (chips_in shipped_chips memories) (clean memories)
 
 -- ---- no loop
 
 -- three sweeps raise the nets of each chip into order
-abbrev levels_of : Bool → Entry → List (List ℕ × Level)
-levels_of blocks entry = swept 3 (chips_in shipped_chips blocks) (pairs_of dependencies) entry
+abbrev levels_of : Memories → Entry → List (List ℕ × Level)
+levels_of memories entry = swept 3 (chips_in shipped_chips memories) (pairs_of dependencies) entry
 
-abbrev is_shown : Bool → Entry → Bool
-is_shown blocks entry = is_levelled (chips_in shipped_chips blocks) (pairs_of dependencies) (levels_of blocks entry) entry
+abbrev is_shown : Memories → Entry → Bool
+is_shown memories entry = is_levelled (chips_in shipped_chips memories) (pairs_of dependencies) (levels_of memories entry) entry
 
-basic_shown : (blocks : Bool) → all (is_shown blocks) basic_chips ≡ true
+basic_shown : (memories : Memories) → all (is_shown memories) basic_chips ≡ true
 unfolding opened
-basic_shown blocks = refl
+basic_shown memories = refl
 
-computing_shown : (blocks : Bool) → all (is_shown blocks) computing_chips ≡ true
+computing_shown : (memories : Memories) → all (is_shown memories) computing_chips ≡ true
 unfolding opened
-computing_shown blocks = refl
+computing_shown memories = refl
 
-memory_shown : (blocks : Bool) → all (is_shown blocks) memory_chips ≡ true
+memory_shown : (memories : Memories) → all (is_shown memories) memory_chips ≡ true
 unfolding opened
-memory_shown true = refl
-memory_shown false = refl
+memory_shown Blocks = refl
+memory_shown Gates = refl
 
-computer_shown : (blocks : Bool) → all (is_shown blocks) computer_chips ≡ true
+computer_shown : (memories : Memories) → all (is_shown memories) computer_chips ≡ true
 unfolding opened
-computer_shown blocks = refl
+computer_shown memories = refl
 
-levelled : (blocks : Bool) → AreLevelled (chips_in shipped_chips blocks) (pairs_of dependencies) (levels_of blocks)
+levelled : (memories : Memories) → AreLevelled (chips_in shipped_chips memories) (pairs_of dependencies) (levels_of memories)
 unfolding shipped_chips
-levelled blocks =
-    all_at (is_shown blocks) (basic_chips ++ (computing_chips ++ (memory_chips ++ computer_chips)))
-    (all-append (is_shown blocks) basic_chips (computing_chips ++ (memory_chips ++ computer_chips)) (basic_shown blocks)
-    (all-append (is_shown blocks) computing_chips (memory_chips ++ computer_chips) (computing_shown blocks) (all-append (is_shown blocks) memory_chips computer_chips (memory_shown blocks) (computer_shown blocks))))
+levelled memories =
+    all_at (is_shown memories) (basic_chips ++ (computing_chips ++ (memory_chips ++ computer_chips)))
+    (all-append (is_shown memories) basic_chips (computing_chips ++ (memory_chips ++ computer_chips)) (basic_shown memories)
+    (all-append (is_shown memories) computing_chips (memory_chips ++ computer_chips) (computing_shown memories) (all-append (is_shown memories) memory_chips computer_chips (memory_shown memories) (computer_shown memories))))
 
 pub no_loop : LooplessLaw
-no_loop blocks = loopless (chips_in shipped_chips blocks) (pairs_of dependencies) (levels_of blocks) (clean blocks) (levelled blocks)
+no_loop memories = loopless (chips_in shipped_chips memories) (pairs_of dependencies) (levels_of memories) (clean memories) (levelled memories)

@@ -1,7 +1,8 @@
 -- One cycle of the Computer is one step of the instruction machine. (The book, chapters 4 and 5.)
-use Rattle.std.specs.Prelude.{◌≡◌, ℕ, ◌-◌, ◌<◌, nat_lt, true, false, if◌then◌else◌, List, [], ◌∷◌, slice_index}
+use Rattle.std.specs.Prelude.{◌≡◌, ℕ, ◌-◌, ◌<◌, nat_lt, false, if◌then◌else◌, List, [], ◌∷◌, slice_index}
 use Rattle.hack_isa.specs.Machine.{Machine, machine_at}
 use Rattle.hdl_tree.specs.declared.library.Entry.{Entry}
+use Rattle.hdl_tree.specs.declared.ends.Memories.TheVariants.{Blocks}
 use Rattle.hdl_tree.specs.Memory.{word_held}
 use Rattle.hdl_tree.specs.Chips.{Chips}
 use Rattle.hdl_tree.specs.Behaviour.{Histories, World, IsBehaviour}
@@ -11,7 +12,7 @@ use Rattle.hack_cpu.specs.Trees.{HasComputerChips, computer_tree}
 
 -- a library whose memories are blocks
 abbrev pub of_blocks : List Entry → Chips
-of_blocks entries = record { entries = entries; blocks = true }
+of_blocks entries = record { entries = entries; memories = Blocks }
 
 -- what comes from outside: the image in the ROM, 0 past it, and the key of each cycle
 abbrev pub outside : List ℕ → (ℕ → ℕ) → World

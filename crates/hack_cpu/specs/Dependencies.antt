@@ -1,9 +1,10 @@
 -- Which outputs of a shipped chip may depend on which of its inputs within the cycle. (The book, chapters 1 to 5.)
 use Prim.Native.String.{String}
-use Rattle.std.specs.Prelude.{◌≡◌, ℕ, Bool, List, [], ◌∷◌, ◌++◌, Some, map, slice_get, codes}
+use Rattle.std.specs.Prelude.{◌≡◌, ℕ, List, [], ◌∷◌, ◌++◌, Some, map, slice_get, codes}
 use Rattle.hdl_tree.specs.declared.tree.Chip.{Chip}
 use Rattle.hdl_tree.specs.declared.tree.Pin.{Pin}
 use Rattle.hdl_tree.specs.declared.library.Entry.{Entry}
+use Rattle.hdl_tree.specs.declared.ends.Memories.{Memories}
 use Rattle.hdl_check.specs.Whole.{chips_in}
 use Rattle.hdl_check.specs.Locations.{IsFaultless}
 use Rattle.hdl_behaviours.specs.Levels.{Pairs, pairs_of}
@@ -41,8 +42,8 @@ dependencies =
 
 -- With blocks and with memories of gates, no shipped chip has a fault.
 abbrev pub FaultlessLaw : Type 0
-FaultlessLaw = (blocks : Bool) (i : ℕ) (entry : Entry) → slice_get shipped_chips i ≡ Some entry → IsFaultless (chips_in shipped_chips blocks) (entry.name ∷ []) entry
+FaultlessLaw = (memories : Memories) (i : ℕ) (entry : Entry) → slice_get shipped_chips i ≡ Some entry → IsFaultless (chips_in shipped_chips memories) (entry.name ∷ []) entry
 
 -- With blocks and with memories of gates, no shipped chip has a loop, and no output depends on an input but as the table says.
 abbrev pub LooplessLaw : Type 0
-LooplessLaw = (blocks : Bool) (i : ℕ) (entry : Entry) → slice_get shipped_chips i ≡ Some entry → IsLoopless (chips_in shipped_chips blocks) (pairs_of dependencies) entry
+LooplessLaw = (memories : Memories) (i : ℕ) (entry : Entry) → slice_get shipped_chips i ≡ Some entry → IsLoopless (chips_in shipped_chips memories) (pairs_of dependencies) entry

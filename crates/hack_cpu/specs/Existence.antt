@@ -1,7 +1,8 @@
 -- Each shipped chip has a behaviour, and so has the Computer with an image and keys. (The book, chapters 1 to 5.)
-use Rattle.std.specs.Prelude.{◌≡◌, ℕ, ◌<◌, Bool, false, List, [], Some}
+use Rattle.std.specs.Prelude.{◌≡◌, ℕ, ◌<◌, false, List, [], Some}
 use Rattle.std.specs.List.{All}
 use Rattle.hdl_tree.specs.declared.library.Entry.{Entry}
+use Rattle.hdl_tree.specs.declared.ends.Memories.{Memories}
 use Rattle.hdl_tree.specs.Chips.{find_chip}
 use Rattle.hdl_tree.specs.Behaviour.{Histories, World, IsBehaviour}
 use Rattle.hdl_check.specs.Whole.{chips_in}
@@ -16,8 +17,8 @@ use Rattle.hack_cpu.specs.Computer.{of_blocks, outside}
 -- inputs, from the keyboard and from the ROM.
 abbrev pub ExistenceLaw : Type 0
 ExistenceLaw =
-    (blocks : Bool) (name : List ℕ) (entry : Entry) → find_chip (chips_in shipped_chips blocks) name ≡ Some entry →
-    (world : World) → AreWords world → (n : ℕ) (input : Histories) → HasBehaviour world (chips_in shipped_chips blocks) entry n input
+    (memories : Memories) (name : List ℕ) (entry : Entry) → find_chip (chips_in shipped_chips memories) name ≡ Some entry →
+    (world : World) → AreWords world → (n : ℕ) (input : Histories) → HasBehaviour world (chips_in shipped_chips memories) entry n input
 
 -- a behaviour of the Computer over n cycles, with an image and keys and without a reset
 pub record ComputerRuns (image : List ℕ) (keys : ℕ → ℕ) (n : ℕ) : Type 0 where

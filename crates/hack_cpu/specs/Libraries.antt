@@ -1,6 +1,7 @@
 -- Libraries of shipped chips and of chips from texts. (The book, chapters 1 to 5, and appendix 2.)
-use Rattle.std.specs.Prelude.{◌≡◌, ℕ, Bool, List, [], ◌∷◌, ◌++◌, ◌⊎◌, None, Some, slice_get}
+use Rattle.std.specs.Prelude.{◌≡◌, ℕ, List, [], ◌∷◌, ◌++◌, ◌⊎◌, None, Some, slice_get}
 use Rattle.hdl_tree.specs.declared.library.Entry.{Entry}
+use Rattle.hdl_tree.specs.declared.ends.Memories.{Memories}
 use Rattle.hdl_tree.specs.Chips.{find_entry}
 use Rattle.hdl_check.specs.Whole.{AreDistinct, chips_in}
 use Rattle.hdl_flatten.specs.Ends.{EndsHavePins}
@@ -25,4 +26,4 @@ pub record LibrariesLaw : Type 0 where
   pub empty : IsLibrary []
   pub shipped : IsLibrary shipped_chips
   pub more : (entries : List Entry) (entry : Entry) → IsLibrary entries → find_entry entries entry.name ≡ None → (entry.shipped ≡ None) ⊎ IsShippedAs entry → IsLibrary (entries ++ entry ∷ [])
-  pub ends : (entries : List Entry) (blocks : Bool) → IsLibrary entries → EndsHavePins (chips_in entries blocks)
+  pub ends : (entries : List Entry) (memories : Memories) → IsLibrary entries → EndsHavePins (chips_in entries memories)

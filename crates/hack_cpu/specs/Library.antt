@@ -1,6 +1,7 @@
 -- All shipped chips. (The book, chapters 1 to 5.)
-use Rattle.std.specs.Prelude.{◌≡◌, Bool, true, List, [], ◌∷◌, ◌++◌}
+use Rattle.std.specs.Prelude.{◌≡◌, true, List, [], ◌∷◌, ◌++◌}
 use Rattle.hdl_tree.specs.declared.library.Entry.{Entry}
+use Rattle.hdl_tree.specs.declared.ends.Memories.{Memories}
 use Rattle.hdl_tree.specs.Writable.{all, chip_can}
 use Rattle.chip_basic.specs.Hdl.{shipped_entry}
 use Rattle.chip_basic.specs.Trees.{nand_tree, not_tree, and_tree, or_tree, xor_tree, mux_tree, dmux_tree, not16_tree, and16_tree, or16_tree, mux16_tree, or8way_tree, mux4way16_tree, mux8way16_tree, dmux4way_tree, dmux8way_tree}
@@ -26,7 +27,7 @@ shipped_chips = basic_chips ++ (computing_chips ++ (memory_chips ++ computer_chi
 
 -- the library of shipped chips, with blocks or with memories of gates, has all chips that the laws ask for, under their names
 abbrev pub LibraryLaw : Type 0
-LibraryLaw = (blocks : Bool) → HasComputerChips (record { entries = shipped_chips; blocks = blocks })
+LibraryLaw = (memories : Memories) → HasComputerChips (record { entries = shipped_chips; memories = memories })
 
 -- each of the chips of the computer keeps the rules of texts, so that its printed form spells it
 abbrev pub ComputerTextsLaw : Type 0

@@ -1,10 +1,11 @@
 -- The pins of the shipped chips, with their widths. (The book, appendix 4.)
 use Prim.Native.String.{String}
-use Rattle.std.specs.Prelude.{◌≡◌, ℕ, Bool, List, [], ◌∷◌, ◌++◌, Some, map, codes}
+use Rattle.std.specs.Prelude.{◌≡◌, ℕ, List, [], ◌∷◌, ◌++◌, Some, map, codes}
 use Rattle.hdl_tree.specs.declared.tree.Pin.{Pin}
 use Rattle.hdl_tree.specs.declared.library.Entry.{Entry}
 use Rattle.hdl_tree.specs.declared.ends.End.{End}
 use Rattle.hdl_tree.specs.declared.ends.End.TheVariants as ends
+use Rattle.hdl_tree.specs.declared.ends.Memories.{Memories}
 use Rattle.hdl_tree.specs.Chips.{Chips, end_of, find_chip, pin_width}
 use Rattle.hdl_check.specs.Whole.{chips_in, AreDistinct}
 use Rattle.hdl_plans.specs.Planned.{HasEnds}
@@ -111,12 +112,12 @@ end_face (ends.Block width) = (word "in" ∷ bit "load" ∷ bits width "address"
 
 -- each end of the library has these pins
 abbrev pub HasEndPins : Chips → Type 0
-HasEndPins chips = (name : List ℕ) (chip : Entry) (e : End) → find_chip chips name ≡ Some chip → end_of chips.blocks chip ≡ Some e → ((face_of chip).inputs, (face_of chip).outputs) ≡ end_face e
+HasEndPins chips = (name : List ℕ) (chip : Entry) (e : End) → find_chip chips name ≡ Some chip → end_of chips.memories chip ≡ Some e → ((face_of chip).inputs, (face_of chip).outputs) ≡ end_face e
 
 -- The shipped chips are those of the table, with its pins; each is known by its own name, and no other has it. With blocks and with memories of
 -- gates, the ends of the library have the pins of ends.
 pub record PinsLaw : Type 0 where
   pub table : map face_of shipped_chips ≡ basic_faces ++ (computing_faces ++ (memory_faces ++ computer_faces))
   pub distinct : AreDistinct shipped_chips
-  pub ends : (blocks : Bool) → HasEnds (chips_in shipped_chips blocks)
-  pub end_pins : (blocks : Bool) → HasEndPins (chips_in shipped_chips blocks)
+  pub ends : (memories : Memories) → HasEnds (chips_in shipped_chips memories)
+  pub end_pins : (memories : Memories) → HasEndPins (chips_in shipped_chips memories)

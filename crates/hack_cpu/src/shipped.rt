@@ -73,7 +73,8 @@ fn add_words(alloc: Global, entries: &mut Vec<Entry>) -> Result<(), AllocError>
 // The chips of many ways.
 fn add_ways(alloc: Global, entries: &mut Vec<Entry>) -> Result<(), AllocError>
     ensures { IfOk result (λ _. entries.new.items ≡ entries.old.items
-        ++ map shipped_entry (or8way_tree ∷ mux4way16_tree ∷ mux8way16_tree ∷ dmux4way_tree ∷ dmux8way_tree ∷ [])) }
+        ++ map shipped_entry
+        (or8way_tree ∷ mux4way16_tree ∷ mux8way16_tree ∷ dmux4way_tree ∷ dmux8way_tree ∷ [])) }
 {
     add_shipped(alloc, entries, or8way_tree(alloc)?)?;
     add_shipped(alloc, entries, mux4way16_tree(alloc)?)?;
@@ -110,7 +111,8 @@ fn add_computing_entries(alloc: Global, entries: &mut Vec<Entry>) -> Result<(), 
 // The chips that keep one word, but for the counter.
 fn add_registers(alloc: Global, entries: &mut Vec<Entry>) -> Result<(), AllocError>
     ensures { IfOk result (λ _. entries.new.items ≡ entries.old.items
-        ++ map shipped_entry (dff_tree ∷ bit_tree ∷ register_tree ∷ a_register_tree ∷ d_register_tree ∷ [])) }
+        ++ map shipped_entry
+        (dff_tree ∷ bit_tree ∷ register_tree ∷ a_register_tree ∷ d_register_tree ∷ [])) }
 {
     add_shipped(alloc, entries, dff_tree(alloc)?)?;
     add_shipped(alloc, entries, bit_tree(alloc)?)?;
@@ -145,7 +147,8 @@ fn add_large_memories(alloc: Global, entries: &mut Vec<Entry>) -> Result<(), All
 
 fn add_memory_entries(alloc: Global, entries: &mut Vec<Entry>) -> Result<(), AllocError>
     requires { entries.old.items ≡ basic_chips ++ computing_chips }
-    ensures { IfOk result (λ _. entries.new.items ≡ basic_chips ++ (computing_chips ++ memory_chips)) }
+    ensures { IfOk result
+        (λ _. entries.new.items ≡ basic_chips ++ (computing_chips ++ memory_chips)) }
 {
     add_registers(alloc, entries)?;
     add_small_memories(alloc, entries)?;
@@ -155,7 +158,8 @@ fn add_memory_entries(alloc: Global, entries: &mut Vec<Entry>) -> Result<(), All
 
 fn add_computer_entries(alloc: Global, entries: &mut Vec<Entry>) -> Result<(), AllocError>
     requires { entries.old.items ≡ basic_chips ++ (computing_chips ++ memory_chips) }
-    ensures { IfOk result (λ _. entries.new.items ≡ basic_chips ++ (computing_chips ++ (memory_chips ++ computer_chips))) }
+    ensures { IfOk result (λ _. entries.new.items
+        ≡ basic_chips ++ (computing_chips ++ (memory_chips ++ computer_chips))) }
 {
     add_shipped(alloc, entries, rom_tree(alloc)?)?;
     add_shipped(alloc, entries, keyboard_tree(alloc)?)?;
@@ -188,7 +192,8 @@ pub fn library(alloc: Global) -> Result<Library, AllocError>
 
 // Where the chip of this name stands, if there is one.
 fn place_of(entries: &[Entry], name: &[u8]) -> Option<usize>
-    ensures found { IfSome result (λ k. (k < length entries.now) × (find_entry entries.now name.now ≡ slice_get entries.now k)) }
+    ensures found { IfSome result (λ k. (k < length entries.now)
+        × (find_entry entries.now name.now ≡ slice_get entries.now k)) }
     ensures none { IfNone result (find_entry entries.now name.now ≡ None) }
 {
     for k in 0..entries.len() {
@@ -212,9 +217,11 @@ pub fn take_shipped(alloc: Global, name: &[u8]) -> Result<Option<Entry>, AllocEr
 
 /// The chip of this name in a library, if there is one. A shipped chip can be printed.
 pub fn find_shipped<'a>(library: &'a Library, name: &[u8]) -> Option<&'a Entry>
-    ensures found { IfSome result (λ entry. find_entry library.now.entries name.now ≡ Some entry.now) }
+    ensures found { IfSome result
+        (λ entry. find_entry library.now.entries name.now ≡ Some entry.now) }
     ensures none { IfNone result (find_entry library.now.entries name.now ≡ None) }
-    ensures printed { library.now.entries ≡ shipped_chips → IfSome result (λ entry. chip_can entry.now.chip ≡ true) }
+    ensures printed { library.now.entries ≡ shipped_chips
+        → IfSome result (λ entry. chip_can entry.now.chip ≡ true) }
 {
     for entry in library.entries.as_slice() {
         if name == entry.name.as_bytes() {

@@ -363,7 +363,8 @@ pub fn keyboard_tree(alloc: Global) -> Result<Chip, AllocError>
 }
 
 fn cpu_parts(alloc: Global) -> Result<List<Part>, AllocError>
-    ensures { IfOk result (λ parts. parts ≡ cpu_registers ++ (cpu_result ++ (cpu_jump ++ cpu_shift))) }
+    ensures { IfOk result
+        (λ parts. parts ≡ cpu_registers ++ (cpu_result ++ (cpu_jump ++ cpu_shift))) }
 {
     parts_of(alloc, CPU)
 }

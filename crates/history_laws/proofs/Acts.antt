@@ -14,7 +14,7 @@ use Rattle.netlist.specs.Net.{Net}
 use Rattle.netlist.specs.Value.{Inputs, AreValues, spelled_number, shown_value, is_loaded, address_of, word_in, held_in}
 use Rattle.hdl_nodes.specs.Numbering.{nodes_of, memory_block, BlockStands, EndStands}
 use Rattle.hdl_nodes.proofs.Numbers.{number_same, number_below, number_word}
-use Rattle.hdl_nodes.proofs.Ends.{spelled_is, end_works}
+use Rattle.hdl_nodes.proofs.Ends.{address_is, end_works, loaded_is, place_is, shown_bits, within, word_is}
 use Rattle.hdl_flatten.specs.Ends.{end_inputs}
 use Rattle.hdl_flatten.specs.Trees.{end_nodes}
 use Rattle.history_laws.specs.Environment.{Environment, EndActs, memory_word}
@@ -58,10 +58,6 @@ held_same load load' address address' word word' start start' a (suc c) s l p w 
 
 -- ---- the ends of a netlist
 
-and_true : (a b : Bool) → b ≡ true → (a && b) ≡ a
-and_true true b h = h
-and_true false b h = refl
-
 -- what comes in at an end whose bits have these nodes and whose block is this
 abbrev pub EndHears : Environment → Inputs → ℕ → List ℕ → ℕ → End → Wires ℕ → Type 0
 EndHears outside inputs n path b ends.Nand at = Unit {0}
@@ -71,42 +67,18 @@ EndHears outside inputs n path b ends.Rom at = (a : ℕ) → a < 32768 → (inpu
 EndHears outside inputs n path b (ends.Block bits) at = (a : ℕ) → a < 2 ^ bits → (inputs.loaded b a ≡ outside.words path a) × (outside.words path a < 65536)
 
 module _ (net : Net) (inputs : Inputs) (n : ℕ) (v : ℕ → ℕ → Bool) (are : AreValues net inputs n v) where
-  -- the word that a block shows
-  shown_bits : (b : ℕ) (block : Block) (at : Wires ℕ) → BlockStands net b block at → (c : ℕ) → c < n → (word : ℕ) → shown_value (Some block) (held_in net.blocks inputs.loaded v c b) (λ i. v i c) ≡ word → word < 65536 → number 16 (λ k. v (at (codes "out") k) c) ≡ word
-  shown_bits b block at stands c lt word is small =
-      number_same 16 (λ k. v (at (codes "out") k) c) (has_bit word)
-      (λ k less. are c (at (codes "out") k) (Word b k) lt (stands.words k less)
-      ∙ ap (λ (o : Option Block). has_bit (shown_value o (held_in net.blocks inputs.loaded v c b) (λ i. v i c)) k) stands.there
-      ∙ ap (λ (x : ℕ). has_bit x k) is)
-      ∙ number_word word small
-
   module _ (b bits : ℕ) (at : Wires ℕ) (stands : BlockStands net b (memory_block bits at) at) where
-    address_is : (c : ℕ) → spelled_number (λ i. v i c) (nodes_of bits (at (codes "address"))) ≡ number bits (λ k. v (at (codes "address") k) c)
-    address_is c = spelled_is (λ i. v i c) bits (at (codes "address"))
-
-    within : (c : ℕ) → nat_lt (spelled_number (λ i. v i c) (nodes_of bits (at (codes "address")))) (2 ^ bits) ≡ true
-    within c = lt-ltb _ _ (subst (λ (x : ℕ). x < 2 ^ bits) (sym (address_is c)) (number_below bits (λ k. v (at (codes "address") k) c)))
-
-    loaded_is : (c : ℕ) → is_loaded (slice_get net.blocks b) (λ i. v i c) ≡ v (at (codes "load") 0) c
-    loaded_is c = ap (λ (o : Option Block). is_loaded o (λ i. v i c)) stands.there ∙ and_true (v (at (codes "load") 0) c) _ (within c)
-
-    place_is : (c : ℕ) → address_of (slice_get net.blocks b) (λ i. v i c) ≡ number bits (λ k. v (at (codes "address") k) c)
-    place_is c = ap (λ (o : Option Block). address_of o (λ i. v i c)) stands.there ∙ address_is c
-
-    word_is : (c : ℕ) → word_in (slice_get net.blocks b) (λ i. v i c) ≡ number 16 (λ k. v (at (codes "in") k) c)
-    word_is c = ap (λ (o : Option Block). word_in o (λ i. v i c)) stands.there ∙ spelled_is (λ i. v i c) 16 (at (codes "in"))
-
     pub held_is : (start : ℕ → ℕ) (a : ℕ) → inputs.loaded b a ≡ start a → (c : ℕ) → held_in net.blocks inputs.loaded v c b a ≡ memory_word bits start (λ name bit d. v (at name bit) d) c a
-    held_is start a s c = held_same _ _ _ _ _ _ (inputs.loaded b) start a c s (λ d lt. loaded_is d) (λ d lt. place_is d) (λ d lt. word_is d)
+    held_is start a s c = held_same _ _ _ _ _ _ (inputs.loaded b) start a c s (λ d lt. loaded_is net inputs n v are b bits at stands d) (λ d lt. place_is net inputs n v are b bits at stands d) (λ d lt. word_is net inputs n v are b bits at stands d)
 
     memory_acts : (start : ℕ → ℕ) → ((a : ℕ) → a < 2 ^ bits → (inputs.loaded b a ≡ start a) × (start a < 65536)) → (c : ℕ) → c < n →
         number 16 (λ k. v (at (codes "out") k) c) ≡ memory_word bits start (λ name bit d. v (at name bit) d) c (number bits (λ k. v (at (codes "address") k) c))
     memory_acts start told c lt =
         let a = number bits (λ k. v (at (codes "address") k) c) in
         let here = told a (number_below bits (λ k. v (at (codes "address") k) c)) in
-        shown_bits b (memory_block bits at) at stands c lt (memory_word bits start (λ name bit d. v (at name bit) d) c a)
-        (ap (λ (t : Bool). cond t (held_in net.blocks inputs.loaded v c b (spelled_number (λ i. v i c) (nodes_of bits (at (codes "address"))))) 0) (within c)
-        ∙ ap (held_in net.blocks inputs.loaded v c b) (address_is c) ∙ held_is start a here.0 c)
+        shown_bits net inputs n v are b (memory_block bits at) at stands c lt (memory_word bits start (λ name bit d. v (at name bit) d) c a)
+        (ap (λ (t : Bool). cond t (held_in net.blocks inputs.loaded v c b (spelled_number (λ i. v i c) (nodes_of bits (at (codes "address"))))) 0) (within net inputs n v are b bits at stands c)
+        ∙ ap (held_in net.blocks inputs.loaded v c b) (address_is net inputs n v are b bits at stands c) ∙ held_is start a here.0 c)
         (held_small (λ d. v (at (codes "load") 0) d) (λ d. number bits (λ k. v (at (codes "address") k) d)) (λ d. number 16 (λ k. v (at (codes "in") k) d)) start (λ d. number_below 16 (λ k. v (at (codes "in") k) d)) a here.1 c)
 
   module _ (outside : Environment) (path : List ℕ) (low b : ℕ) (at : Wires ℕ) (never : (c : ℕ) → c < n → v low c ≡ false) where

@@ -66,7 +66,7 @@ module _ (chips : Chips) (top : Entry) (e : Elab) (is : IsElaborated chips top e
 
   abbrev keys_at : List PartIn → ℕ → ℕ → Bool
   keys_at [] c node = false
-  keys_at (p ∷ ps) c node = key_of (end_of chips.blocks p.chip) p.path c node (keys_at ps c node)
+  keys_at (p ∷ ps) c node = key_of (end_of chips.memories p.chip) p.path c node (keys_at ps c node)
 
   abbrev stored : Option End → List ℕ → ℕ → ℕ
   stored None path a = 0
@@ -78,7 +78,7 @@ module _ (chips : Chips) (top : Entry) (e : Elab) (is : IsElaborated chips top e
 
   abbrev words_at : List PartIn → ℕ → ℕ → ℕ
   words_at [] b a = 0
-  words_at (p ∷ ps) b a = if is_block (block_at (end_of chips.blocks p.chip) (is.block p.path)) b then stored (end_of chips.blocks p.chip) p.path a else words_at ps b a
+  words_at (p ∷ ps) b a = if is_block (block_at (end_of chips.memories p.chip) (is.block p.path)) b then stored (end_of chips.memories p.chip) p.path a else words_at ps b a
 
   -- ---- what is found
 
@@ -127,20 +127,20 @@ module _ (chips : Chips) (top : Entry) (e : Elab) (is : IsElaborated chips top e
 
   module _ (all : List PartIn) (stand : (i : ℕ) (p : PartIn) → slice_get all i ≡ Some p → chip_at chips top p.path ≡ Some p.chip) where
     -- bit j of the keyboard at a path
-    module _ (path : List ℕ) (chip : Entry) (there : chip_at chips top path ≡ Some chip) (is_key : end_of chips.blocks chip ≡ Some ends.Keyboard) (c j : ℕ) (lt : j < 16) where
+    module _ (path : List ℕ) (chip : Entry) (there : chip_at chips top path ≡ Some chip) (is_key : end_of chips.memories chip ≡ Some ends.Keyboard) (c j : ℕ) (lt : j < 16) where
       abbrev node : ℕ
       node = is.at path (codes "out") j
 
       own_bit : IsEndBit chips top is.at node
       own_bit = record { path = path; chip = chip; e = ends.Keyboard; bit = j; there = there; is_end = is_key; below = lt; node = refl }
 
-      one_key : (p : PartIn) → chip_at chips top p.path ≡ Some p.chip → end_of chips.blocks p.chip ≡ Some ends.Keyboard → (k : ℕ) → k < 16 → is.at p.path (codes "out") k ≡ node → has_bit (outside.key p.path c) k ≡ has_bit (outside.key path c) j
+      one_key : (p : PartIn) → chip_at chips top p.path ≡ Some p.chip → end_of chips.memories p.chip ≡ Some ends.Keyboard → (k : ℕ) → k < 16 → is.at p.path (codes "out") k ≡ node → has_bit (outside.key p.path c) k ≡ has_bit (outside.key path c) j
       unfolding own_bit
       one_key p at kind k less same =
           let one = is.alone node (record { path = p.path; chip = p.chip; e = ends.Keyboard; bit = k; there = at; is_end = kind; below = less; node = same }) own_bit in
           ap₂ (λ (q : List ℕ) (m : ℕ). has_bit (outside.key q c) m) one.0 one.1
 
-      kept_by : (p : PartIn) (o : Option End) (rest : Bool) → chip_at chips top p.path ≡ Some p.chip → end_of chips.blocks p.chip ≡ o → rest ≡ has_bit (outside.key path c) j → key_of o p.path c node rest ≡ has_bit (outside.key path c) j
+      kept_by : (p : PartIn) (o : Option End) (rest : Bool) → chip_at chips top p.path ≡ Some p.chip → end_of chips.memories p.chip ≡ o → rest ≡ has_bit (outside.key path c) j → key_of o p.path c node rest ≡ has_bit (outside.key path c) j
       kept_by p None rest at kind r = r
       kept_by p (Some ends.Nand) rest at kind r = r
       kept_by p (Some ends.Dff) rest at kind r = r
@@ -152,44 +152,44 @@ module _ (chips : Chips) (top : Entry) (e : Elab) (is : IsElaborated chips top e
       key_is [] each i here = absurd cc
       key_is (p ∷ ps) each zero here =
           let same : p ≡ part_in path chip = cc in
-          ap (λ (q : PartIn). key_of (end_of chips.blocks q.chip) q.path c node (keys_at ps c node)) same
+          ap (λ (q : PartIn). key_of (end_of chips.memories q.chip) q.path c node (keys_at ps c node)) same
           ∙ ap (λ (o : Option End). key_of o path c node (keys_at ps c node)) is_key
           ∙ key_found 16 path c node (keys_at ps c node) (has_bit (outside.key path c) j) (one_key (part_in path chip) there is_key) j lt refl
       key_is (p ∷ ps) each (suc i) here =
-          kept_by p (end_of chips.blocks p.chip) (keys_at ps c node) (each 0 p refl) refl (key_is ps (λ k q near. each (suc k) q near) i here)
+          kept_by p (end_of chips.memories p.chip) (keys_at ps c node) (each 0 p refl) refl (key_is ps (λ k q near. each (suc k) q near) i here)
 
       no_input : input_at (all_bits top.chip.inputs) c node ≡ None
       no_input = input_none (all_bits top.chip.inputs) c node (λ i b near same. is.outside i b near (subst (IsEndBit chips top is.at) (sym same) own_bit))
 
     -- the word at an address of the block at a path
-    module _ (path : List ℕ) (chip : Entry) (there : chip_at chips top path ≡ Some chip) (b a : ℕ) (its : block_at (end_of chips.blocks chip) (is.block path) ≡ Some b) where
+    module _ (path : List ℕ) (chip : Entry) (there : chip_at chips top path ≡ Some chip) (b a : ℕ) (its : block_at (end_of chips.memories chip) (is.block path) ≡ Some b) where
       abbrev its_word : ℕ
-      its_word = stored (end_of chips.blocks chip) path a
+      its_word = stored (end_of chips.memories chip) path a
 
-      one_block : (p : PartIn) → chip_at chips top p.path ≡ Some p.chip → is_block (block_at (end_of chips.blocks p.chip) (is.block p.path)) b ≡ true → stored (end_of chips.blocks p.chip) p.path a ≡ its_word
+      one_block : (p : PartIn) → chip_at chips top p.path ≡ Some p.chip → is_block (block_at (end_of chips.memories p.chip) (is.block p.path)) b ≡ true → stored (end_of chips.memories p.chip) p.path a ≡ its_word
       one_block p at h =
           let q : IsEndBlock chips top is.block b = record { path = p.path; chip = p.chip; there = at; its = block_is _ b h } in
           let r : IsEndBlock chips top is.block b = record { path = path; chip = chip; there = there; its = its } in
           let same = is.blocks_apart b q r in
           let two : Some p.chip ≡ Some chip = sym at ∙ ap (chip_at chips top) same ∙ there in
           let one : p.chip ≡ chip = cc in
-          ap₂ (λ (x : Entry) (y : List ℕ). stored (end_of chips.blocks x) y a) one same
+          ap₂ (λ (x : Entry) (y : List ℕ). stored (end_of chips.memories x) y a) one same
 
-      chosen : (p : PartIn) (t : Bool) (rest : ℕ) → chip_at chips top p.path ≡ Some p.chip → is_block (block_at (end_of chips.blocks p.chip) (is.block p.path)) b ≡ t → rest ≡ its_word → (if t then stored (end_of chips.blocks p.chip) p.path a else rest) ≡ its_word
+      chosen : (p : PartIn) (t : Bool) (rest : ℕ) → chip_at chips top p.path ≡ Some p.chip → is_block (block_at (end_of chips.memories p.chip) (is.block p.path)) b ≡ t → rest ≡ its_word → (if t then stored (end_of chips.memories p.chip) p.path a else rest) ≡ its_word
       chosen p true rest at h r = one_block p at h
       chosen p false rest at h r = r
 
-      own_block : is_block (block_at (end_of chips.blocks chip) (is.block path)) b ≡ true
+      own_block : is_block (block_at (end_of chips.memories chip) (is.block path)) b ≡ true
       own_block = ap (λ (o : Option ℕ). is_block o b) its ∙ eq-eqb b b refl
 
       word_is : (ps : List PartIn) → ((i : ℕ) (p : PartIn) → slice_get ps i ≡ Some p → chip_at chips top p.path ≡ Some p.chip) → (i : ℕ) → slice_get ps i ≡ Some (part_in path chip) → words_at ps b a ≡ its_word
       word_is [] each i here = absurd cc
       word_is (p ∷ ps) each zero here =
           let same : p ≡ part_in path chip = cc in
-          ap (λ (q : PartIn). if is_block (block_at (end_of chips.blocks q.chip) (is.block q.path)) b then stored (end_of chips.blocks q.chip) q.path a else words_at ps b a) same
+          ap (λ (q : PartIn). if is_block (block_at (end_of chips.memories q.chip) (is.block q.path)) b then stored (end_of chips.memories q.chip) q.path a else words_at ps b a) same
           ∙ ap (λ (t : Bool). if t then its_word else words_at ps b a) own_block
       word_is (p ∷ ps) each (suc i) here =
-          chosen p (is_block (block_at (end_of chips.blocks p.chip) (is.block p.path)) b) (words_at ps b a) (each 0 p refl) refl (word_is ps (λ k q near. each (suc k) q near) i here)
+          chosen p (is_block (block_at (end_of chips.memories p.chip) (is.block p.path)) b) (words_at ps b a) (each 0 p refl) refl (word_is ps (λ k q near. each (suc k) q near) i here)
 
   -- ---- the inputs
 
@@ -212,13 +212,13 @@ module _ (chips : Chips) (top : Entry) (e : Elab) (is : IsElaborated chips top e
     hear : AllHear chips top e is name pins found tree listed outside made n
     hear path chip kind there is_end = by kind is_end
       where
-        word : (k : End) → end_of chips.blocks chip ≡ Some k → block_at (Some k) (is.block path) ≡ Some (is.block path) → (a : ℕ) → words_at all_parts (is.block path) a ≡ stored (Some k) path a
+        word : (k : End) → end_of chips.memories chip ≡ Some k → block_at (Some k) (is.block path) ≡ Some (is.block path) → (a : ℕ) → words_at all_parts (is.block path) a ≡ stored (Some k) path a
         word k is_k own a =
             let s = place_of path chip there in
             word_is all_parts each_stands path chip there (is.block path) a (ap (λ (o : Option End). block_at o (is.block path)) is_k ∙ own) all_parts each_stands s.k s.there
             ∙ ap (λ (o : Option End). stored o path a) is_k
 
-        by : (k : End) → end_of chips.blocks chip ≡ Some k → EndHears outside made n path (is.block path) k (is.at path)
+        by : (k : End) → end_of chips.memories chip ≡ Some k → EndHears outside made n path (is.block path) k (is.at path)
         by ends.Nand is_k = tt
         by ends.Dff is_k = tt
         by ends.Keyboard is_k = λ c lt.

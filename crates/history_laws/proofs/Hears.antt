@@ -83,7 +83,7 @@ told_by outside inputs n path outs block b at (ends.Block bits) same is h = λ b
 
 -- ---- a chip that is an end itself
 
-only_top : (chips : Chips) (top : Entry) (kind : End) → end_of chips.blocks top ≡ Some kind → (path : List ℕ) (c : Entry) → chip_at chips top path ≡ Some c → path ≡ []
+only_top : (chips : Chips) (top : Entry) (kind : End) → end_of chips.memories top ≡ Some kind → (path : List ℕ) (c : Entry) → chip_at chips top path ≡ Some c → path ≡ []
 only_top chips top kind is [] c at = refl
 only_top chips top kind is (i ∷ path) c at =
     let p = at_part chips top i path c at in
@@ -104,20 +104,20 @@ first_behind [] p outs = refl
 first_behind (q ∷ ins) p outs = first_behind ins p outs
 
 module _ (chips : Chips) (top : Entry) (e : Elab) (is : IsElaborated chips top e) where
-  pub stands_in : (path : List ℕ) (chip : Entry) (kind : End) → chip_at chips top path ≡ Some chip → end_of chips.blocks chip ≡ Some kind → EndStands e.net is.low (is.block path) kind (is.at path)
+  pub stands_in : (path : List ℕ) (chip : Entry) (kind : End) → chip_at chips top path ≡ Some chip → end_of chips.memories chip ≡ Some kind → EndStands e.net is.low (is.block path) kind (is.at path)
   stands_in path chip kind there is_end =
       subst (λ (o : Option End). ChipWired is.low is.high chips chip o (is.at path) (λ i. is.at (path ++ i ∷ [])) (λ k. EndStands e.net is.low (is.block path) k (is.at path))) is_end
       (is.numbering.wired path chip there)
 
-  only_block : (kind : End) → end_of chips.blocks top ≡ Some kind → (block : Block) → slice_get e.net.blocks (is.block []) ≡ Some block → is.block [] ≡ 0
+  only_block : (kind : End) → end_of chips.memories top ≡ Some kind → (block : Block) → slice_get e.net.blocks (is.block []) ≡ Some block → is.block [] ≡ 0
   only_block kind is_end block there =
       let lt = slice_get_within e.net.blocks (is.block []) block there in
       let first = is.blocks_used 0 (omega (arith, lt)) in
       let here = only_top chips top kind is_end first.path first.chip first.there in
-      ap is.block (sym here) ∙ block_is (end_of chips.blocks first.chip) (is.block first.path) 0 first.its
+      ap is.block (sym here) ∙ block_is (end_of chips.memories first.chip) (is.block first.path) 0 first.its
 
   -- by the kind of end: it has block 0, if any
-  block_zero : (kind : End) → end_of chips.blocks top ≡ Some kind → HasBlock kind → block_at (Some kind) (is.block []) ≡ Some 0
+  block_zero : (kind : End) → end_of chips.memories top ≡ Some kind → HasBlock kind → block_at (Some kind) (is.block []) ≡ Some 0
   block_zero ends.Nand is_end h = absurd h
   block_zero ends.Dff is_end h = absurd h
   block_zero ends.Keyboard is_end h = absurd h
@@ -145,7 +145,7 @@ module _ (chips : Chips) (top : Entry) (e : Elab) (is : IsElaborated chips top e
 
   module _ (name : List ℕ) (pins : EndsHavePins chips) (found : find_chip chips name ≡ Some top) (tree : List PartIn) (listed : IsTree chips top tree) (outside : Environment) (inputs : Inputs) (n : ℕ) where
     abbrev pub AllHear : Type 0
-    AllHear = (path : List ℕ) (chip : Entry) (kind : End) → chip_at chips top path ≡ Some chip → end_of chips.blocks chip ≡ Some kind → EndHears outside inputs n path (is.block path) kind (is.at path)
+    AllHear = (path : List ℕ) (chip : Entry) (kind : End) → chip_at chips top path ≡ Some chip → end_of chips.memories chip ≡ Some kind → EndHears outside inputs n path (is.block path) kind (is.at path)
 
     -- a part of the tree, as the directory lists it
     abbrev listed_as : PartIn → PartAt
@@ -161,10 +161,10 @@ module _ (chips : Chips) (top : Entry) (e : Elab) (is : IsElaborated chips top e
     part_nodes : (path : List ℕ) (chip : Entry) (kind : End) → HasPins chip kind → kind ≡ ends.Keyboard → (k : ℕ) → k < 16 → slice_index (listed_as (record { path = path; chip = chip })).outs k ≡ is.at path (codes "out") k
     part_nodes path chip kind h q k lt = pin_nodes (is.at path) chip.chip.outputs (sixteen chip kind q h) k lt
 
-    part_block : (path : List ℕ) (chip : Entry) (kind : End) → end_of chips.blocks chip ≡ Some kind → block_at (Some kind) (is.block path) ≡ (listed_as (record { path = path; chip = chip })).block
+    part_block : (path : List ℕ) (chip : Entry) (kind : End) → end_of chips.memories chip ≡ Some kind → block_at (Some kind) (is.block path) ≡ (listed_as (record { path = path; chip = chip })).block
     part_block path chip kind is_end = ap (λ (o : Option End). block_at o (is.block path)) (sym is_end)
 
-    hears_top : IsTold outside inputs n chips top tree e → (kind : End) → end_of chips.blocks top ≡ Some kind → HasPins top kind → EndHears outside inputs n [] (is.block []) kind (is.at [])
+    hears_top : IsTold outside inputs n chips top tree e → (kind : End) → end_of chips.memories top ≡ Some kind → HasPins top kind → EndHears outside inputs n [] (is.block []) kind (is.at [])
     hears_top told ends.Nand is_end h = tt
     hears_top told ends.Dff is_end h = tt
     hears_top told ends.Keyboard is_end h =
@@ -183,7 +183,7 @@ module _ (chips : Chips) (top : Entry) (e : Elab) (is : IsElaborated chips top e
         by : (p : List ℕ) → chip_at chips top p ≡ Some chip → EndHears outside inputs n p (is.block p) kind (is.at p)
         by [] at_top =
             let same : top ≡ chip = cc in
-            let own = ap (λ (x : Entry). end_of chips.blocks x) same ∙ is_end in
+            let own = ap (λ (x : Entry). end_of chips.memories x) same ∙ is_end in
             hears_top told kind own (pins name top kind found own)
         by (l ∷ r) at_part =
             let s = in_tree chips top chip tree l r listed at_part in
@@ -197,7 +197,7 @@ module _ (chips : Chips) (top : Entry) (e : Elab) (is : IsElaborated chips top e
     pub part_stands : (k : ℕ) (p : PartIn) → slice_get tree k ≡ Some p → chip_at chips top p.path ≡ Some p.chip
     part_stands k p there = at_within chips top p (listed_at chips 0 (parts_of chips top) tree listed k p there)
 
-    told_top : AllHear → (pin : PinAt) (kind : End) → slice_get e.pins (length top.chip.inputs) ≡ Some pin → end_of chips.blocks top ≡ Some kind → HasPins top kind → EndHears outside inputs n [] (is.block []) kind (is.at []) → EndIsTold outside inputs n [] pin.nodes (Some 0) kind
+    told_top : AllHear → (pin : PinAt) (kind : End) → slice_get e.pins (length top.chip.inputs) ≡ Some pin → end_of chips.memories top ≡ Some kind → HasPins top kind → EndHears outside inputs n [] (is.block []) kind (is.at []) → EndIsTold outside inputs n [] pin.nodes (Some 0) kind
     told_top all pin ends.Nand there is_end h x = tt
     told_top all pin ends.Dff there is_end h x = tt
     told_top all pin ends.Keyboard there is_end h x =

@@ -89,7 +89,7 @@ module _ (chips : Chips) (name : List ℕ) (top : Entry) (e : Elab) (pins : Ends
 
   -- ---- each bit of the behaviour is what drives it
 
-  wired_at : (c : ℕ) → c < n → (path : List ℕ) (chip : Entry) (o : Option End) → chip_at chips top path ≡ Some chip → end_of chips.blocks chip ≡ o → ChipWired false true chips chip o (λ m bit. wires path m bit c) (λ i m bit. wires (path ++ i ∷ []) m bit c) (λ k. EndActs outside path c k (wires path))
+  wired_at : (c : ℕ) → c < n → (path : List ℕ) (chip : Entry) (o : Option End) → chip_at chips top path ≡ Some chip → end_of chips.memories chip ≡ o → ChipWired false true chips chip o (λ m bit. wires path m bit c) (λ i m bit. wires (path ++ i ∷ []) m bit c) (λ k. EndActs outside path c k (wires path))
   wired_at c lt path chip o there is_end =
       subst (λ (x : Option End). ChipWired false true chips chip x (λ m bit. wires path m bit c) (λ i m bit. wires (path ++ i ∷ []) m bit c) (λ k. EndActs outside path c k (wires path))) is_end (acts c lt path chip there)
 
@@ -117,7 +117,7 @@ module _ (chips : Chips) (name : List ℕ) (top : Entry) (e : Elab) (pins : Ends
 
   -- ---- the inputs of ends
 
-  in_driven : (path : List ℕ) (chip : Entry) (k : End) → chip_at chips top path ≡ Some chip → end_of chips.blocks chip ≡ Some k → (m : List ℕ) (width : ℕ) → find_value m (end_inputs k) ≡ Some width → (bit : ℕ) → bit < width → IsDriven chips top path m bit
+  in_driven : (path : List ℕ) (chip : Entry) (k : End) → chip_at chips top path ≡ Some chip → end_of chips.memories chip ≡ Some k → (m : List ℕ) (width : ℕ) → find_value m (end_inputs k) ≡ Some width → (bit : ℕ) → bit < width → IsDriven chips top path m bit
   in_driven path chip k there is_end m width wide bit lt =
       let f = fine chips name top pins found faultless path chip there in
       input_driven chips name top pins found faultless path chip there m bit (end_bit chip k m width bit (pins f.name chip k f.found is_end) wide lt)
@@ -143,7 +143,7 @@ module _ (chips : Chips) (name : List ℕ) (top : Entry) (e : Elab) (pins : Ends
         ap (λ (k : ℕ). v k c) at_node ∙ are c (is.at [] b.pin.name s.at.bit) nodes.Pin lt is_pin ∙ sym told ∙ sym wire
 
     -- an input bit of an end whose node stands before
-    in_now : (path : List ℕ) (chip : Entry) (k : End) → chip_at chips top path ≡ Some chip → end_of chips.blocks chip ≡ Some k → (m : List ℕ) (width : ℕ) → find_value m (end_inputs k) ≡ Some width → (bit : ℕ) → bit < width → (at : ℕ) → Before at → is.at path m bit < at → own path m bit c ≡ wires path m bit c
+    in_now : (path : List ℕ) (chip : Entry) (k : End) → chip_at chips top path ≡ Some chip → end_of chips.memories chip ≡ Some k → (m : List ℕ) (width : ℕ) → find_value m (end_inputs k) ≡ Some width → (bit : ℕ) → bit < width → (at : ℕ) → Before at → is.at path m bit < at → own path m bit c ≡ wires path m bit c
     in_now path chip k there is_end m width wide bit below at go less =
         let g = in_driven path chip k there is_end m width wide bit below in
         let same = g.same e.net is.low is.high is.block is.at is.numbering in
@@ -161,7 +161,7 @@ module _ (chips : Chips) (name : List ℕ) (top : Entry) (e : Elab) (pins : Ends
         let zero_plus : 0 + i ≡ i = omega arith in
         subst (λ (j : ℕ). j < m) (got (nodes_of bits (is.at path (codes "address"))) i inside ∙ at_row (is.at path (codes "address")) bits 0 i below ∙ ap (is.at path (codes "address")) zero_plus) (early i 0 inside)
 
-    now_of : (path : List ℕ) (chip : Entry) (k : End) → chip_at chips top path ≡ Some chip → end_of chips.blocks chip ≡ Some k → (bit : ℕ) → bit < end_nodes (Some k) → Before (is.at path (codes "out") bit) → Now outside path c (own path) (wires path) k
+    now_of : (path : List ℕ) (chip : Entry) (k : End) → chip_at chips top path ≡ Some chip → end_of chips.memories chip ≡ Some k → (bit : ℕ) → bit < end_nodes (Some k) → Before (is.at path (codes "out") bit) → Now outside path c (own path) (wires path) k
     now_of path chip ends.Nand there is_end zero below go =
         let s = stands_in chips top e is path chip ends.Nand there is_end in
         let fit = ordered.fit (is.at path (codes "out") 0) (Nand (is.at path (codes "a") 0) (is.at path (codes "b") 0)) s in (
@@ -180,7 +180,7 @@ module _ (chips : Chips) (name : List ℕ) (top : Entry) (e : Elab) (pins : Ends
         in_now path chip (ends.Block bits) there is_end (codes "address") bits refl k less (is.at path (codes "out") bit) go
         (address_early path bit bits (memory_block bits (is.at path)) refl s.there (s.words bit below) k less)
 
-    past_of : (path : List ℕ) (chip : Entry) (k : End) → chip_at chips top path ≡ Some chip → end_of chips.blocks chip ≡ Some k → Past outside path c (own path) (wires path) k
+    past_of : (path : List ℕ) (chip : Entry) (k : End) → chip_at chips top path ≡ Some chip → end_of chips.memories chip ≡ Some k → Past outside path c (own path) (wires path) k
     past_of path chip k there is_end d less m width wide bit below = at_same d (omega (arith, less, lt)) (past d less) path m bit (in_driven path chip k there is_end m width wide bit below)
 
     output_now : (path : List ℕ) (bit : ℕ) → HasOutput chips top path bit → Before (is.at path (codes "out") bit) → v (is.at path (codes "out") bit) c ≡ wires path (codes "out") bit c

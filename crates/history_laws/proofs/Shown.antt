@@ -61,16 +61,16 @@ module _ (chips : Chips) (name : List ℕ) (top : Entry) (e : Elab) (pins : Ends
     pub high_is : (c : ℕ) → c < n → v is.high c ≡ true
     high_is c lt = are c is.high (Nand is.low is.low) lt is.numbering.high_stands ∙ ap (λ (b : Bool). not (b && b)) (low_is c lt)
 
-    here : (c : ℕ) → c < n → (path : List ℕ) (inner : Entry) → chip_at chips top path ≡ Some inner → (o : Option End) → end_of chips.blocks inner ≡ o →
+    here : (c : ℕ) → c < n → (path : List ℕ) (inner : Entry) → chip_at chips top path ≡ Some inner → (o : Option End) → end_of chips.memories inner ≡ o →
         ChipWired is.low is.high chips inner o (is.at path) (λ i. is.at (path ++ i ∷ [])) (λ k. EndStands e.net is.low (is.block path) k (is.at path)) →
         ChipWired false true chips inner o (λ name bit. shown path name bit c) (λ i name bit. shown (path ++ i ∷ []) name bit c) (λ k. EndActs outside path c k (shown path))
     here c lt path inner there None is_end wired = map_parts (λ node. v node c) is.low is.high false true (low_is c lt) (high_is c lt) chips inner (parts_of_body inner.chip.body) (is.at path) (λ i. is.at (path ++ i ∷ [])) wired
     here c lt path inner there (Some kind) is_end wired = end_acts e.net inputs n v are outside path is.low (is.block path) (is.at path) low_is kind wired (hear path inner kind there is_end) c lt
 
     pub behaves : BehavesIn outside chips top n shown
-    behaves c lt path inner there = here c lt path inner there (end_of chips.blocks inner) refl (is.numbering.wired path inner there)
+    behaves c lt path inner there = here c lt path inner there (end_of chips.memories inner) refl (is.numbering.wired path inner there)
 
-    pub acts_at : (path : List ℕ) (chip : Entry) (kind : End) → chip_at chips top path ≡ Some chip → end_of chips.blocks chip ≡ Some kind → (c : ℕ) → c < n → EndActs outside path c kind (shown path)
+    pub acts_at : (path : List ℕ) (chip : Entry) (kind : End) → chip_at chips top path ≡ Some chip → end_of chips.memories chip ≡ Some kind → (c : ℕ) → c < n → EndActs outside path c kind (shown path)
     acts_at path chip kind there is_end c lt =
         end_acts e.net inputs n v are outside path is.low (is.block path) (is.at path) low_is kind (stands_in chips top e is path chip kind there is_end) (hear path chip kind there is_end) c lt
 
@@ -82,7 +82,7 @@ module _ (chips : Chips) (name : List ℕ) (top : Entry) (e : Elab) (pins : Ends
         ap (λ (x : ℕ). v x c) node_is ∙ are c node nodes.Pin lt is_pin
 
     -- the words of a memory among the parts
-    pub words_at : (k b bits c a : ℕ) (part : PartIn) (given : PartAt) → a < 2 ^ bits → slice_get tree k ≡ Some part → slice_get e.parts k ≡ Some given → given.block ≡ Some b → end_of chips.blocks part.chip ≡ Some (ends.Block bits) → memory_word bits (outside.words part.path) (shown part.path) c a ≡ held_in e.net.blocks inputs.loaded v c b a
+    pub words_at : (k b bits c a : ℕ) (part : PartIn) (given : PartAt) → a < 2 ^ bits → slice_get tree k ≡ Some part → slice_get e.parts k ≡ Some given → given.block ≡ Some b → end_of chips.memories part.chip ≡ Some (ends.Block bits) → memory_word bits (outside.words part.path) (shown part.path) c a ≡ held_in e.net.blocks inputs.loaded v c b a
     words_at k b bits c a part given small there here block is_end =
         let same = part_is outside inputs n k part given there here in
         let two : Some (is.block part.path) ≡ Some b = sym (ap (λ (o : Option End). block_at o (is.block part.path)) is_end) ∙ ap (λ (x : PartAt). x.block) same ∙ block in

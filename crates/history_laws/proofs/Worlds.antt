@@ -30,6 +30,6 @@ rewired chips chip (Some e) wires inside P Q go h = go e h
 
 pub worlds : WorldLaw
 worlds world chips top n wires = (
-  λ h c lt path chip there. rewired chips chip (end_of chips.blocks chip) (λ name bit. wires path name bit c) (λ i name bit. wires (path ++ i ∷ []) name bit c) (λ e. EndWorks world c e (wires path)) (λ e. EndActs (everywhere world) path c e (wires path)) (acts_by world path c (wires path)) (h c lt path chip there),
-  λ h c lt path chip there. rewired chips chip (end_of chips.blocks chip) (λ name bit. wires path name bit c) (λ i name bit. wires (path ++ i ∷ []) name bit c) (λ e. EndActs (everywhere world) path c e (wires path)) (λ e. EndWorks world c e (wires path)) (works_by world path c (wires path)) (h c lt path chip there),
+  λ h c lt path chip there. rewired chips chip (end_of chips.memories chip) (λ name bit. wires path name bit c) (λ i name bit. wires (path ++ i ∷ []) name bit c) (λ e. EndWorks world c e (wires path)) (λ e. EndActs (everywhere world) path c e (wires path)) (acts_by world path c (wires path)) (h c lt path chip there),
+  λ h c lt path chip there. rewired chips chip (end_of chips.memories chip) (λ name bit. wires path name bit c) (λ i name bit. wires (path ++ i ∷ []) name bit c) (λ e. EndActs (everywhere world) path c e (wires path)) (λ e. EndWorks world c e (wires path)) (works_by world path c (wires path)) (h c lt path chip there),
 )

@@ -1,5 +1,6 @@
--- Behaviours of a chip where what is told of the outside goes by path in the tree: each keyboard has its own key, each instruction memory its own
--- words, and words may stand in each memory before the first cycle. (The book, chapters 1 to 5.)
+-- Behaviours of a chip where what is told of the outside goes by path in the tree. Each keyboard has its own key, each
+-- instruction memory its own words, and words may stand in each memory before the first cycle. (The book, chapters 1
+-- to 5.)
 use Rattle.std.specs.Prelude.{◌≡◌, ℕ, ◌<◌, true, false, not, ◌&&◌, List, codes}
 use Rattle.hdl_tree.specs.declared.library.Entry.{Entry}
 use Rattle.hdl_tree.specs.declared.ends.End.{End}
@@ -8,8 +9,8 @@ use Rattle.hdl_tree.specs.Memory.{number, before, word_held}
 use Rattle.hdl_tree.specs.Chips.{Chips}
 use Rattle.hdl_tree.specs.Behaviour.{Histories, Wired}
 
--- by path of part numbers: the key code at a keyboard in each cycle, the words of an instruction memory, and the words that stand in a memory before
--- the first cycle
+-- By path of part numbers: the key code at a keyboard in each cycle and the words of an instruction memory. So are the
+-- words that stand in a memory before the first cycle.
 pub record Environment : Type 0 where
   pub key : List ℕ → ℕ → ℕ
   pub rom : List ℕ → ℕ → ℕ
@@ -21,7 +22,8 @@ pub record IsOfWords (outside : Environment) : Type 0 where
   pub rom : (path : List ℕ) (a : ℕ) → outside.rom path a < 65536
   pub words : (path : List ℕ) (a : ℕ) → outside.words path a < 65536
 
--- the word at address a of a memory of 2 ^ bits words at the start of cycle c, in which these words stood before the first
+-- the word at address a of a memory of 2 ^ bits words at the start of cycle c, in which these words stood before the
+-- first
 abbrev pub memory_word : ℕ → (ℕ → ℕ) → Histories → ℕ → ℕ → ℕ
 memory_word bits start w c a =
     word_held (λ d. w (codes "load") 0 d) (λ d. number bits (λ k. w (codes "address") k d)) (λ d. number 16 (λ k. w (codes "in") k d)) start c a

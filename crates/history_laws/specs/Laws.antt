@@ -20,7 +20,8 @@ pub record HasShown (outside : Environment) (inputs : Inputs) (n : ℕ) (v : ℕ
   pub comes : ComesIn top e inputs n wires
   pub shows : Shows chips tree e outside inputs n v wires
 
--- Whatever comes in at pins and stands in blocks at the start: there is a behaviour with what this tells of the outside, and the netlist shows it.
+-- Whatever comes in at pins and stands in blocks at the start: there is a behaviour with what this tells of the
+-- outside, and the netlist shows it.
 abbrev pub HistoryLaw : Type 0
 HistoryLaw =
     (chips : Chips) (name : List ℕ) (top : Entry) (e : Elab) → EndsHavePins chips → find_chip chips name ≡ Some top → IsElaborated chips top e → (tree : List PartIn) → IsTree chips top tree →
@@ -44,7 +45,8 @@ InputsLaw =
     (chips : Chips) (name : List ℕ) (top : Entry) (e : Elab) → EndsHavePins chips → find_chip chips name ≡ Some top → IsElaborated chips top e → (tree : List PartIn) → IsTree chips top tree →
     (outside : Environment) → IsOfWords outside → (given : Histories) (n : ℕ) → TellsOf outside given n chips top tree e
 
--- The netlist is in order and the chip has no fault. Then it shows just that: each behaviour with this outside and these inputs.
+-- The netlist is in order and the chip has no fault. Then it shows just that: each behaviour with this outside and
+-- these inputs.
 abbrev pub OnlyLaw : Type 0
 OnlyLaw =
     (chips : Chips) (name : List ℕ) (top : Entry) (e : Elab) → EndsHavePins chips → find_chip chips name ≡ Some top → HasNoFault chips top → IsElaborated chips top e → AreOrdered e.net.nodes e.net.blocks → (tree : List PartIn) → IsTree chips top tree →
@@ -55,6 +57,7 @@ OnlyLaw =
 abbrev pub everywhere : World → Environment
 everywhere world = record { key = λ path. world.key; rom = λ path. world.rom; words = λ path a. 0 }
 
--- The behaviours in a world are those where each keyboard and each instruction memory is told the same, and each memory begins with zeros.
+-- The behaviours in a world are those where each keyboard and each instruction memory is told the same, and each memory
+-- begins with zeros.
 abbrev pub WorldLaw : Type 0
 WorldLaw = (world : World) (chips : Chips) (top : Entry) (n : ℕ) (wires : List ℕ → Histories) → IsBehaviour world chips top n wires ↔ BehavesIn (everywhere world) chips top n wires

@@ -1,9 +1,11 @@
-//! Laws of elaborated chips in whatever stands around them: keys, instruction memories and words before the first cycle, each told by path. No code, only laws.
+//! Laws of elaborated chips in whatever stands around them: keys, instruction memories and words before the first
+//! cycle, each told by path. No code, only laws.
 #![tactic(auto)]
 
 ghost use Rattle.history_laws.specs.Laws.{EveryLaw, HistoryLaw, InputsLaw, OnlyLaw, WorldLaw};
 
-/// Law: whatever comes in and stands in memories before the first cycle, the values of an elaborated chip's netlist are a behaviour of the chip.
+/// Law: whatever comes in and stands in memories before the first cycle, the values of an elaborated chip's netlist are
+/// a behaviour of the chip.
 pub fn history_law()
     ensures { HistoryLaw }
 {}
@@ -23,8 +25,8 @@ pub fn only_law()
     ensures { OnlyLaw }
 {}
 
-/// Law: where keyboards, instruction memories and memories are told the same everywhere, and memories begin with zeros, these are the behaviours in
-/// a world.
+/// Law: where keyboards, instruction memories and memories are told the same everywhere, and memories begin with zeros,
+/// these are the behaviours in a world.
 pub fn world_law()
     ensures { WorldLaw }
 {}

@@ -34,7 +34,8 @@ fn last_bracket(text: &[u8]) -> Option<usize>
 
 // The digits before a closing bracket, which stands at the end.
 fn digits_before_end(text: &[u8]) -> Option<&[u8]>
-    ensures { MatchOption result ((inside : List ℕ) → IsClosed text.now inside → ⊥) (λ inside. IsClosed text.now inside.now) }
+    ensures { MatchOption result ((inside : List ℕ) → IsClosed text.now inside → ⊥)
+        (λ inside. IsClosed text.now inside.now) }
 {
     let Some((last, inside)) = text.split_last() else {
         return None;

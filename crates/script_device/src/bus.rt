@@ -17,7 +17,8 @@ use word16::bit;
 pub fn set_bus(sim: &mut ChipSim, nodes: &[u32], word: u16)
     requires { IsInput (net_of sim.old.frame) nodes.now }
     ensures frame { sim.new.frame ≡ sim.old.frame }
-    ensures stands { (calls : List Call) → WasTold sim.old calls → WasTold sim.new (set_nodes (net_of sim.old.frame).nodes 0 word nodes.now calls) }
+    ensures stands { (calls : List Call) → WasTold sim.old calls
+        → WasTold sim.new (set_nodes (net_of sim.old.frame).nodes 0 word nodes.now calls) }
 {
     for (k, node) in nodes.iter().enumerate() {
         sim.set(*node, bit(word, k as u16));
@@ -49,7 +50,9 @@ fn stored_word(sim: &ChipSim, nodes: &[u32]) -> u16
 pub fn bus_word(sim: &ChipSim, nodes: &[u32]) -> u16
     requires wide { length nodes.now ≤ 16 }
     requires seen { All (IsSeen sim.now.frame) nodes.now }
-    ensures { (calls told : List Call) (v : ℕ → ℕ → Bool) → WasTold sim.now calls → evaluated_calls calls ≡ Some told → AreValues (net_of sim.now.frame) told v → result ≡ spelled_number (λ i. v i (cycle_of told)) nodes.now }
+    ensures { (calls told : List Call) (v : ℕ → ℕ → Bool) → WasTold sim.now calls
+        → evaluated_calls calls ≡ Some told → AreValues (net_of sim.now.frame) told v
+        → result ≡ spelled_number (λ i. v i (cycle_of told)) nodes.now }
 {
     sim.stored_law();
     stored_word(sim, nodes)

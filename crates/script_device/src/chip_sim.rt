@@ -17,18 +17,34 @@ use std::alloc::{AllocError, Global};
 use std::marker::Model;
 
 /// The netlist of a chip whose simulator has it simplified: the nodes that are kept, and for each node its place, where it is kept.
-#[derive(Drop)]
 pub struct WholeNet {
     net: Netlist,
     kept: Vec<u32>,
     places: Vec<u32>,
 }
 
+// By hand, so that whoever drops one calls this.
+impl Drop for WholeNet {
+    fn drop(self) {
+        let WholeNet {
+            net: _,
+            kept: _,
+            places: _,
+        } = self;
+    }
+}
+
 /// A simulator of a chip.
-#[derive(Drop)]
 pub struct ChipSim {
     sim: Sim,
     whole: Option<WholeNet>,
+}
+
+// By hand, so that whoever drops one calls this.
+impl Drop for ChipSim {
+    fn drop(self) {
+        let ChipSim { sim: _, whole: _ } = self;
+    }
 }
 
 impl Model for ChipSim {
@@ -36,7 +52,8 @@ impl Model for ChipSim {
 
     ghost Value = { ChipState };
 
-    ghost view = { λ s. record { sim = s.sim; frame = record { whole = s.whole; net = s.sim.net } } };
+    ghost view = { λ s.
+        record { sim = s.sim; frame = record { whole = s.whole; net = s.sim.net } } };
 
     ghost invariant = { λ s. StandsIn s.whole s.sim.net };
 }
@@ -60,7 +77,8 @@ fn with_pins(alloc: Global, nodes: &[Node], named: &[u32]) -> Result<Vec<u32>, A
     requires there { All (λ k. k < length nodes.now) named.now }
     ensures there { IfOk result (λ v. All (λ k. k < length nodes.now) v.items) }
     ensures only { IfOk result (λ v. All (IsWanted nodes.now named.now) v.items) }
-    ensures pins { IfOk result (λ v. (k : ℕ) → slice_get nodes.now k ≡ Some Pin → Contains v.items k) }
+    ensures pins { IfOk result
+        (λ v. (k : ℕ) → slice_get nodes.now k ≡ Some Pin → Contains v.items k) }
     ensures named { IfOk result (λ v. (k : ℕ) → Contains named.now k → Contains v.items k) }
 {
     let mut kept = Vec::from_slice(alloc, named)?;
@@ -79,8 +97,10 @@ fn places_by_node(
 ) -> Result<Vec<u32>, AllocError>
     requires there { All (λ k. k < count) kept.now }
     requires number { length place.now ≡ length kept.now }
-    requires single { (on : ℕ → ℕ) × ((i : ℕ) → i < length kept.now → slice_index place.now i ≡ on (slice_index kept.now i)) }
-    ensures { IfOk result (λ v. (i : ℕ) → i < length kept.now → slice_index v.items (slice_index kept.now i) ≡ slice_index place.now i) }
+    requires single { (on : ℕ → ℕ)
+        × ((i : ℕ) → i < length kept.now → slice_index place.now i ≡ on (slice_index kept.now i)) }
+    ensures { IfOk result (λ v. (i : ℕ) → i < length kept.now
+        → slice_index v.items (slice_index kept.now i) ≡ slice_index place.now i) }
 {
     let mut places = vec![in alloc; 0; count]?;
     for i in 0..kept.len() {
@@ -138,9 +158,11 @@ impl ChipSim {
 
     /// Puts words into a block from an address on.
     pub fn load_block(&mut self, block: u32, from: u32, words: &[u16])
-        requires { MatchOption (slice_get (net_of self.old.frame).blocks block) ⊥ (λ b. from + length words.now ≤ b.words) }
+        requires { MatchOption (slice_get (net_of self.old.frame).blocks block) ⊥
+            (λ b. from + length words.now ≤ b.words) }
         ensures frame { self.new.frame ≡ self.old.frame }
-        ensures stands { (calls : List Call) → WasTold self.old calls → WasTold self.new (Load block from words.now ∷ calls) }
+        ensures stands { (calls : List Call) → WasTold self.old calls
+            → WasTold self.new (Load block from words.now ∷ calls) }
     {
         self.sim.load_block(block, from, words);
     }
@@ -149,7 +171,8 @@ impl ChipSim {
     pub fn set(&mut self, node: u32, bit: bool)
         requires { slice_get (net_of self.old.frame).nodes node ≡ Some Pin }
         ensures frame { self.new.frame ≡ self.old.frame }
-        ensures stands { (calls : List Call) → WasTold self.old calls → WasTold self.new (Set (rank (net_of self.old.frame).nodes node) bit ∷ calls) }
+        ensures stands { (calls : List Call) → WasTold self.old calls
+            → WasTold self.new (Set (rank (net_of self.old.frame).nodes node) bit ∷ calls) }
     {
         let place = place_of(&self.whole, node);
         self.sim.set(place, bit);
@@ -158,7 +181,8 @@ impl ChipSim {
     /// Evaluates the chip.
     pub fn eval(&mut self)
         ensures frame { self.new.frame ≡ self.old.frame }
-        ensures stands { (calls : List Call) → WasTold self.old calls → WasTold self.new (Eval ∷ calls) }
+        ensures stands { (calls : List Call) → WasTold self.old calls
+            → WasTold self.new (Eval ∷ calls) }
     {
         self.sim.eval();
     }
@@ -166,7 +190,8 @@ impl ChipSim {
     /// Evaluates the chip and fixes the next states.
     pub fn tick(&mut self)
         ensures frame { self.new.frame ≡ self.old.frame }
-        ensures stands { (calls : List Call) → WasTold self.old calls → WasTold self.new (Tick ∷ calls) }
+        ensures stands { (calls : List Call) → WasTold self.old calls
+            → WasTold self.new (Tick ∷ calls) }
     {
         self.sim.tick();
     }
@@ -174,7 +199,8 @@ impl ChipSim {
     /// Takes the states that were fixed and evaluates.
     pub fn tock(&mut self)
         ensures frame { self.new.frame ≡ self.old.frame }
-        ensures stands { (calls : List Call) → WasTold self.old calls → WasTold self.new (Tock ∷ calls) }
+        ensures stands { (calls : List Call) → WasTold self.old calls
+            → WasTold self.new (Tock ∷ calls) }
     {
         self.sim.tock();
     }
@@ -189,15 +215,20 @@ impl ChipSim {
 
     /// The word at an address of a block now.
     pub fn block_word(&self, block: u32, a: u32) -> u16
-        requires { MatchOption (slice_get (net_of self.now.frame).blocks block) ⊥ (λ b. a < b.words) }
-        ensures { (calls told : List Call) (v : ℕ → ℕ → Bool) → WasTold self.now calls → evaluated_calls calls ≡ Some told → AreValues (net_of self.now.frame) told v → result ≡ words_of (net_of self.now.frame).blocks v calls block a }
+        requires { MatchOption (slice_get (net_of self.now.frame).blocks block) ⊥
+            (λ b. a < b.words) }
+        ensures { (calls told : List Call) (v : ℕ → ℕ → Bool) → WasTold self.now calls
+            → evaluated_calls calls ≡ Some told → AreValues (net_of self.now.frame) told v
+            → result ≡ words_of (net_of self.now.frame).blocks v calls block a }
     {
         self.sim.block_word(block, a)
     }
 
     /// What is stored of a node is its value at the last evaluation.
     pub fn stored_law(&self)
-        ensures { (calls told : List Call) (v : ℕ → ℕ → Bool) → WasTold self.now calls → evaluated_calls calls ≡ Some told → AreValues (net_of self.now.frame) told v → (k : ℕ) → IsSeen self.now.frame k → stored_at self.now k ≡ v k (cycle_of told) }
+        ensures { (calls told : List Call) (v : ℕ → ℕ → Bool) → WasTold self.now calls
+            → evaluated_calls calls ≡ Some told → AreValues (net_of self.now.frame) told v → (k : ℕ)
+            → IsSeen self.now.frame k → stored_at self.now k ≡ v k (cycle_of told) }
     {
         let _ = &self.sim;
     }
@@ -211,7 +242,8 @@ impl ChipSim {
 
     /// Every list of calls has its values.
     pub fn values_law(&self)
-        ensures { (calls : List Call) → (v : ℕ → ℕ → Bool) × AreValues (net_of self.now.frame) calls v }
+        ensures { (calls : List Call)
+            → (v : ℕ → ℕ → Bool) × AreValues (net_of self.now.frame) calls v }
     {
         let _ = &self.sim;
     }

@@ -62,7 +62,9 @@ fn find_in_chip(alloc: Global, chip: &DrivenChip, text: &[u8]) -> Result<Option<
 fn chip_value(chip: &DrivenChip, probe: &Probe) -> Value
     requires fits { FitsNet (chip_of chip.now).net (chip_of chip.now).directory }
     requires seen { (calls : List Call) × CanSee (Chip (chip_of chip.now) calls) probe.now }
-    ensures { (calls told : List Call) (v : ℕ → ℕ → Bool) → IsDriven chip.now calls → Sees (chip_of chip.now) calls told v → result ≡ value_of (Chip (chip_of chip.now) calls) told v (probe_source probe.now) }
+    ensures { (calls told : List Call) (v : ℕ → ℕ → Bool) → IsDriven chip.now calls
+        → Sees (chip_of chip.now) calls told v
+        → result ≡ value_of (Chip (chip_of chip.now) calls) told v (probe_source probe.now) }
 {
     match probe {
         Probe::Bus(nodes) => chip.bus(nodes.as_slice()),
@@ -88,7 +90,8 @@ fn set_variable(chip: &mut DrivenChip, text: &[u8], word: u16) -> bool
     ensures kept { chip_of chip.new ≡ chip_of chip.old }
     ensures time { time_of chip.new ≡ time_of chip.old }
     ensures runs { (simplify : Bool) → ChipRuns simplify chip.old → ChipRuns simplify chip.new }
-    ensures set { (calls : List Call) → IsDriven chip.old calls → SetsChip (chip_of chip.old) calls chip.new text.now word result }
+    ensures set { (calls : List Call) → IsDriven chip.old calls
+        → SetsChip (chip_of chip.old) calls chip.new text.now word result }
 {
     match find_settable(chip.directory(), chip.sizes(), text) {
         None => false,
@@ -117,7 +120,8 @@ fn is_whole(sizes: &[u32], block: u32) -> bool
 
 // The block of the instruction memory of a chip.
 fn memory_block(chip: &DrivenChip) -> Option<u32>
-    ensures { MatchOption result ((block : ℕ) → HasMemory (chip_of chip.now) block → ⊥) (λ block. HasMemory (chip_of chip.now) block) }
+    ensures { MatchOption result ((block : ℕ) → HasMemory (chip_of chip.now) block → ⊥)
+        (λ block. HasMemory (chip_of chip.now) block) }
 {
     let Some(block) = block_named(chip.directory(), b"ROM32K".as_slice()) else {
         return None;
@@ -158,7 +162,8 @@ fn find_in_machine(text: &[u8]) -> Option<Probe>
 // What is seen of the machine.
 fn machine_value(machine: &ScriptMachine, probe: &Probe) -> Value
     requires { CanSee (Machine (running_of machine.now)) probe.now }
-    ensures { (told : List Call) (v : ℕ → ℕ → Bool) → result ≡ value_of (Machine (running_of machine.now)) told v (probe_source probe.now) }
+    ensures { (told : List Call) (v : ℕ → ℕ → Bool)
+        → result ≡ value_of (Machine (running_of machine.now)) told v (probe_source probe.now) }
 {
     match probe {
         Probe::Register(register) => machine.value(*register),
@@ -169,7 +174,8 @@ fn machine_value(machine: &ScriptMachine, probe: &Probe) -> Value
 // Sets what a text stands for in the machine.
 fn set_register(machine: &mut ScriptMachine, text: &[u8], word: u16) -> bool
     ensures cycle { (running_of machine.new).cycle ≡ (running_of machine.old).cycle }
-    ensures set { SetsMachine (running_of machine.old) (running_of machine.new) text.now word result }
+    ensures set { SetsMachine (running_of machine.old)
+        (running_of machine.new) text.now word result }
 {
     match find_register(text) {
         None => false,
@@ -206,8 +212,10 @@ impl Device {
     /// Sets what a text stands for, if it can be set.
     pub fn set(&mut self, text: &[u8], word: u16) -> bool
         requires { (d : devices.Device) × Stands self.old d }
-        ensures stands { (d : devices.Device) → Stands self.old d → TellsSet d self.new text.now word result }
-        ensures runs { (simplify : Bool) → DeviceRuns simplify self.old → DeviceRuns simplify self.new }
+        ensures stands { (d : devices.Device) → Stands self.old d
+            → TellsSet d self.new text.now word result }
+        ensures runs { (simplify : Bool) → DeviceRuns simplify self.old
+            → DeviceRuns simplify self.new }
         ensures steps { steps_of self.new ≡ steps_of self.old }
     {
         match self {
@@ -220,7 +228,8 @@ impl Device {
     /// Evaluates a chip.
     pub fn eval(&mut self)
         ensures stands { (d : devices.Device) → Stands self.old d → Stands self.new (after_eval d) }
-        ensures runs { (simplify : Bool) → DeviceRuns simplify self.old → DeviceRuns simplify self.new }
+        ensures runs { (simplify : Bool) → DeviceRuns simplify self.old
+            → DeviceRuns simplify self.new }
         ensures steps { steps_of self.new ≡ steps_of self.old }
     {
         if let Device::Chip(chip) = self {
@@ -231,7 +240,8 @@ impl Device {
     /// A tick: of a chip, or marked in the time of the machine.
     pub fn tick(&mut self)
         ensures stands { (d : devices.Device) → Stands self.old d → Stands self.new (after_tick d) }
-        ensures runs { (simplify : Bool) → DeviceRuns simplify self.old → DeviceRuns simplify self.new }
+        ensures runs { (simplify : Bool) → DeviceRuns simplify self.old
+            → DeviceRuns simplify self.new }
         ensures steps { steps_of self.new ≡ steps_of self.old }
     {
         match self {
@@ -245,7 +255,8 @@ impl Device {
     pub fn tock(&mut self)
         requires { steps_of self.old + 1 < 2 ^ 63 }
         ensures stands { (d : devices.Device) → Stands self.old d → Stands self.new (after_tock d) }
-        ensures runs { (simplify : Bool) → DeviceRuns simplify self.old → DeviceRuns simplify self.new }
+        ensures runs { (simplify : Bool) → DeviceRuns simplify self.old
+            → DeviceRuns simplify self.new }
         ensures steps { steps_of self.new ≤ steps_of self.old + 1 }
     {
         match self {
@@ -268,8 +279,10 @@ impl Device {
     /// Puts an image into the instruction memory of a chip, and 0 after it, if it has one.
     pub fn load_rom(&mut self, alloc: Global, image: &[u16]) -> Result<bool, AllocError>
         requires { length image.now ≤ 32768 }
-        ensures stands { (d : devices.Device) → Stands self.old d → TellsImage d self.new image.now result }
-        ensures runs { (simplify : Bool) → DeviceRuns simplify self.old → DeviceRuns simplify self.new }
+        ensures stands { (d : devices.Device) → Stands self.old d
+            → TellsImage d self.new image.now result }
+        ensures runs { (simplify : Bool) → DeviceRuns simplify self.old
+            → DeviceRuns simplify self.new }
         ensures steps { steps_of self.new ≡ steps_of self.old }
     {
         let Device::Chip(chip) = self else {
@@ -286,7 +299,8 @@ impl Device {
     /// What is seen of it now.
     pub fn value(&self, probe: &Probe) -> Value
         requires { (d : devices.Device) × Stands self.now d × CanSee d probe.now }
-        ensures { (d : devices.Device) (told : List Call) (v : ℕ → ℕ → Bool) → Stands self.now d → SeesAll d told v → result ≡ value_of d told v (probe_source probe.now) }
+        ensures { (d : devices.Device) (told : List Call) (v : ℕ → ℕ → Bool) → Stands self.now d
+            → SeesAll d told v → result ≡ value_of d told v (probe_source probe.now) }
     {
         match self {
             Device::Empty => Value::Time(0, false),
@@ -297,7 +311,8 @@ impl Device {
 
     /// Something is seen of it.
     pub fn values_law(&self)
-        ensures { (d : devices.Device) → Stands self.now d → (told : List Call) × ((v : ℕ → ℕ → Bool) × SeesAll d told v) }
+        ensures { (d : devices.Device) → Stands self.now d
+            → (told : List Call) × ((v : ℕ → ℕ → Bool) × SeesAll d told v) }
     {
         if let Device::Chip(chip) = self {
             chip.values_law();

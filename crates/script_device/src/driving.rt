@@ -21,7 +21,8 @@ use std::alloc::{AllocError, Global};
 
 /// The nodes of the pin of this name.
 pub fn pin_named<'a>(pins: &'a [PinNodes], name: &[u8]) -> Option<&'a [u32]>
-    ensures { MatchOption result (pin_named pins.now name.now ≡ None) (λ nodes. pin_named pins.now name.now ≡ Some nodes.now) }
+    ensures { MatchOption result (pin_named pins.now name.now ≡ None)
+        (λ nodes. pin_named pins.now name.now ≡ Some nodes.now) }
 {
     for pin in pins {
         if pin.name.as_bytes() == name {
@@ -33,7 +34,8 @@ pub fn pin_named<'a>(pins: &'a [PinNodes], name: &[u8]) -> Option<&'a [u32]>
 
 /// The first part of the chip of this name.
 pub fn part_named<'a>(parts: &'a [PartNodes], name: &[u8]) -> Option<&'a PartNodes>
-    ensures { MatchOption result (part_named parts.now name.now ≡ None) (λ part. part_named parts.now name.now ≡ Some part.now) }
+    ensures { MatchOption result (part_named parts.now name.now ≡ None)
+        (λ part. part_named parts.now name.now ≡ Some part.now) }
 {
     for part in parts {
         if part.chip.as_bytes() == name {
@@ -121,29 +123,34 @@ impl DrivenChip {
         ensures kept { chip_of self.new ≡ chip_of self.old }
         ensures time { time_of self.new ≡ time_of self.old }
         ensures runs { (simplify : Bool) → ChipRuns simplify self.old → ChipRuns simplify self.new }
-        ensures driven { (calls : List Call) → IsDriven self.old calls → IsDriven self.new (set_source (chip_of self.old).net.nodes (Nodes nodes.now) word calls) }
+        ensures driven { (calls : List Call) → IsDriven self.old calls → IsDriven self.new
+            (set_source (chip_of self.old).net.nodes (Nodes nodes.now) word calls) }
     {
         set_bus(&mut self.sim, nodes, word);
     }
 
     /// Puts a word into a block.
     pub fn set_word(&mut self, block: u32, address: u32, word: u16)
-        requires { MatchOption (slice_get (chip_of self.old).net.blocks block) ⊥ (λ b. address < b.words) }
+        requires { MatchOption (slice_get (chip_of self.old).net.blocks block) ⊥
+            (λ b. address < b.words) }
         ensures kept { chip_of self.new ≡ chip_of self.old }
         ensures time { time_of self.new ≡ time_of self.old }
         ensures runs { (simplify : Bool) → ChipRuns simplify self.old → ChipRuns simplify self.new }
-        ensures driven { (calls : List Call) → IsDriven self.old calls → IsDriven self.new (set_source (chip_of self.old).net.nodes (BlockWord block address) word calls) }
+        ensures driven { (calls : List Call) → IsDriven self.old calls → IsDriven self.new
+            (set_source (chip_of self.old).net.nodes (BlockWord block address) word calls) }
     {
         self.sim.load_block(block, address, &[word]);
     }
 
     /// Puts words into a block, from its first word on.
     pub fn load_words(&mut self, block: u32, words: &[u16])
-        requires { MatchOption (slice_get (chip_of self.old).net.blocks block) ⊥ (λ b. length words.now ≤ b.words) }
+        requires { MatchOption (slice_get (chip_of self.old).net.blocks block) ⊥
+            (λ b. length words.now ≤ b.words) }
         ensures kept { chip_of self.new ≡ chip_of self.old }
         ensures time { time_of self.new ≡ time_of self.old }
         ensures runs { (simplify : Bool) → ChipRuns simplify self.old → ChipRuns simplify self.new }
-        ensures driven { (calls : List Call) → IsDriven self.old calls → IsDriven self.new (Load block 0 words.now ∷ calls) }
+        ensures driven { (calls : List Call) → IsDriven self.old calls
+            → IsDriven self.new (Load block 0 words.now ∷ calls) }
     {
         self.sim.load_block(block, 0, words);
     }
@@ -160,7 +167,8 @@ impl DrivenChip {
         ensures kept { chip_of self.new ≡ chip_of self.old }
         ensures runs { (simplify : Bool) → ChipRuns simplify self.old → ChipRuns simplify self.new }
         ensures time { time_of self.new ≡ time_of self.old }
-        ensures driven { (calls : List Call) → IsDriven self.old calls → IsDriven self.new (Eval ∷ calls) }
+        ensures driven { (calls : List Call) → IsDriven self.old calls
+            → IsDriven self.new (Eval ∷ calls) }
     {
         self.sim.eval();
     }
@@ -170,7 +178,8 @@ impl DrivenChip {
         ensures kept { chip_of self.new ≡ chip_of self.old }
         ensures time { time_of self.new ≡ time_of self.old }
         ensures runs { (simplify : Bool) → ChipRuns simplify self.old → ChipRuns simplify self.new }
-        ensures driven { (calls : List Call) → IsDriven self.old calls → IsDriven self.new (Tick ∷ calls) }
+        ensures driven { (calls : List Call) → IsDriven self.old calls
+            → IsDriven self.new (Tick ∷ calls) }
     {
         self.sim.tick();
         self.ticked = true;
@@ -182,7 +191,8 @@ impl DrivenChip {
         ensures kept { chip_of self.new ≡ chip_of self.old }
         ensures time { time_of self.new ≤ time_of self.old + 1 }
         ensures runs { (simplify : Bool) → ChipRuns simplify self.old → ChipRuns simplify self.new }
-        ensures driven { (calls : List Call) → IsDriven self.old calls → IsDriven self.new (Tock ∷ calls) }
+        ensures driven { (calls : List Call) → IsDriven self.old calls
+            → IsDriven self.new (Tock ∷ calls) }
     {
         self.sim.tock();
         self.cycle = next_cycle(self.cycle, self.ticked);
@@ -207,15 +217,20 @@ impl DrivenChip {
     pub fn bus(&self, nodes: &[u32]) -> Value
         requires bus { IsBus (chip_of self.now).net nodes.now }
         requires named { (text : List ℕ) × Means (chip_of self.now) text (Nodes nodes.now) }
-        ensures { (calls told : List Call) (v : ℕ → ℕ → Bool) → IsDriven self.now calls → Sees (chip_of self.now) calls told v → result ≡ value_seen (chip_of self.now) calls told v (Nodes nodes.now) }
+        ensures { (calls told : List Call) (v : ℕ → ℕ → Bool) → IsDriven self.now calls
+            → Sees (chip_of self.now) calls told v
+            → result ≡ value_seen (chip_of self.now) calls told v (Nodes nodes.now) }
     {
         bus_value(nodes.len(), bus_word(&self.sim, nodes))
     }
 
     /// The word that stands in a block now.
     pub fn word(&self, block: u32, address: u32) -> Value
-        requires { MatchOption (slice_get (chip_of self.now).net.blocks block) ⊥ (λ b. address < b.words) }
-        ensures { (calls told : List Call) (v : ℕ → ℕ → Bool) → IsDriven self.now calls → Sees (chip_of self.now) calls told v → result ≡ value_seen (chip_of self.now) calls told v (BlockWord block address) }
+        requires { MatchOption (slice_get (chip_of self.now).net.blocks block) ⊥
+            (λ b. address < b.words) }
+        ensures { (calls told : List Call) (v : ℕ → ℕ → Bool) → IsDriven self.now calls
+            → Sees (chip_of self.now) calls told v
+            → result ≡ value_seen (chip_of self.now) calls told v (BlockWord block address) }
     {
         Value::Wide(self.sim.block_word(block, address))
     }
@@ -229,7 +244,8 @@ impl DrivenChip {
 
     /// Every list of calls has its values.
     pub fn values_law(&self)
-        ensures { (calls : List Call) → (v : ℕ → ℕ → Bool) × AreValues (chip_of self.now).net calls v }
+        ensures { (calls : List Call)
+            → (v : ℕ → ℕ → Bool) × AreValues (chip_of self.now).net calls v }
     {
         self.sim.values_law();
     }

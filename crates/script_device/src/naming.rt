@@ -8,7 +8,8 @@ use crate::directory::{Directory, PartNodes, PinNodes};
 use std::alloc::{AllocError, Global};
 
 fn push_pins(nodes: &mut Vec<u32>, pins: &[PinNodes]) -> Result<(), AllocError>
-    ensures { OnOk result (nodes.new.items ≡ nodes.old.items ++ flat_map (λ pin. pin.nodes) pins.now) }
+    ensures { OnOk result
+        (nodes.new.items ≡ nodes.old.items ++ flat_map (λ pin. pin.nodes) pins.now) }
 {
     for pin in pins {
         nodes.extend_from_slice(pin.nodes.as_slice())?;

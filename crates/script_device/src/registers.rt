@@ -27,7 +27,8 @@ fn register_at(address: u64) -> Option<Register>
 
 // The word of memory, or the key, of `RAM[k]`.
 fn find_word(text: &[u8]) -> Option<Register>
-    ensures { MatchOption result ((k : ℕ) → HasNumber text.now (codes "RAM") k → keyboard < k) (λ r. (k : ℕ) × HasNumber text.now (codes "RAM") k × StandsAt k (register_of r)) }
+    ensures { MatchOption result ((k : ℕ) → HasNumber text.now (codes "RAM") k → keyboard < k)
+        (λ r. (k : ℕ) × HasNumber text.now (codes "RAM") k × StandsAt k (register_of r)) }
 {
     let Some((name, inside)) = brackets(text) else {
         return None;
@@ -41,7 +42,8 @@ fn find_word(text: &[u8]) -> Option<Register>
 
 /// The register of the machine that a text stands for.
 pub fn find_register(text: &[u8]) -> Option<Register>
-    ensures { MatchOption result ((r : machines.Register) → Means text.now r → ⊥) (λ r. Means text.now (register_of r)) }
+    ensures { MatchOption result ((r : machines.Register) → Means text.now r → ⊥)
+        (λ r. Means text.now (register_of r)) }
 {
     if text == b"A".as_slice() {
         return Some(Register::A);

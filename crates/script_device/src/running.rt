@@ -28,7 +28,8 @@ impl ScriptMachine {
     /// Sets a register, a word below the address of the keyboard, or the key. The program counter takes the low fifteen bits.
     pub(crate) fn set(&mut self, register: Register, word: u16)
         requires { IsStored register }
-        ensures { running_of self.new ≡ after_set (running_of self.old) (register_of register) word }
+        ensures { running_of self.new
+            ≡ after_set (running_of self.old) (register_of register) word }
     {
         match register {
             Register::A => self.hack.set_a(word),

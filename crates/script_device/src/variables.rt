@@ -24,7 +24,10 @@ pub enum Variable<'a> {
 
 // The nodes of a pin of the chip.
 fn own_bus<'a>(directory: &'a Directory, text: &[u8]) -> Option<&'a [u32]>
-    ensures { MatchOption result (pin_named (directory.now.inputs ++ directory.now.outputs) text.now ≡ None) (λ nodes. pin_named (directory.now.inputs ++ directory.now.outputs) text.now ≡ Some nodes.now) }
+    ensures { MatchOption result
+        (pin_named (directory.now.inputs ++ directory.now.outputs) text.now ≡ None)
+        (λ nodes. pin_named (directory.now.inputs ++ directory.now.outputs) text.now
+        ≡ Some nodes.now) }
 {
     match pin_named(directory.inputs.as_slice(), text) {
         Some(nodes) => Some(nodes),
@@ -34,7 +37,8 @@ fn own_bus<'a>(directory: &'a Directory, text: &[u8]) -> Option<&'a [u32]>
 
 // The nodes of `out` of the first part of a chip.
 fn out_named<'a>(directory: &'a Directory, name: &[u8]) -> Option<&'a [u32]>
-    ensures { MatchOption result ((nodes : List ℕ) → HasOut directory.now name.now nodes → ⊥) (λ nodes. HasOut directory.now name.now nodes.now) }
+    ensures { MatchOption result ((nodes : List ℕ) → HasOut directory.now name.now nodes → ⊥)
+        (λ nodes. HasOut directory.now name.now nodes.now) }
 {
     let Some(part) = part_named(directory.parts.as_slice(), name) else {
         return None;
@@ -47,7 +51,8 @@ fn out_named<'a>(directory: &'a Directory, name: &[u8]) -> Option<&'a [u32]>
 
 /// The block of the first part of a chip.
 pub fn block_named(directory: &Directory, name: &[u8]) -> Option<u32>
-    ensures { MatchOption result ((block : ℕ) → HasBlock directory.now name.now block → ⊥) (λ block. HasBlock directory.now name.now block) }
+    ensures { MatchOption result ((block : ℕ) → HasBlock directory.now name.now block → ⊥)
+        (λ block. HasBlock directory.now name.now block) }
 {
     let Some(part) = part_named(directory.parts.as_slice(), name) else {
         return None;
@@ -67,7 +72,8 @@ fn has_word(sizes: &[u32], block: u32, address: u32) -> bool
 
 // The nodes of `Name[]`.
 fn part_out<'a>(directory: &'a Directory, text: &[u8]) -> Option<&'a [u32]>
-    ensures { MatchOption result ((nodes : List ℕ) → IsOut directory.now text.now nodes → ⊥) (λ nodes. IsOut directory.now text.now nodes.now) }
+    ensures { MatchOption result ((nodes : List ℕ) → IsOut directory.now text.now nodes → ⊥)
+        (λ nodes. IsOut directory.now text.now nodes.now) }
 {
     let Some((name, inside)) = brackets(text) else {
         return None;
@@ -81,7 +87,9 @@ fn part_out<'a>(directory: &'a Directory, text: &[u8]) -> Option<&'a [u32]>
 
 // The block and the address of `Name[k]`.
 fn part_word(directory: &Directory, sizes: &[u32], text: &[u8]) -> Option<(u32, u32)>
-    ensures { (net : Net) → AreSizes sizes.now net → MatchOption result ((b a : ℕ) → chips.Means (loaded_chip net directory.now) text.now (BlockWord b a) → ⊥) (λ word. chips.Means (loaded_chip net directory.now) text.now (BlockWord word.0 word.1)) }
+    ensures { (net : Net) → AreSizes sizes.now net → MatchOption result
+        ((b a : ℕ) → chips.Means (loaded_chip net directory.now) text.now (BlockWord b a) → ⊥)
+        (λ word. chips.Means (loaded_chip net directory.now) text.now (BlockWord word.0 word.1)) }
 {
     let Some((name, inside)) = brackets(text) else {
         return None;
@@ -106,7 +114,9 @@ pub fn find_variable<'a>(
     sizes: &[u32],
     text: &[u8],
 ) -> Option<Variable<'a>>
-    ensures { (net : Net) (calls : List Call) → AreSizes sizes.now net → MatchOption result ((source : Source) → Means (Chip (loaded_chip net directory.now) calls) text.now source → ⊥) (λ found. Means (Chip (loaded_chip net directory.now) calls) text.now (source_of found)) }
+    ensures { (net : Net) (calls : List Call) → AreSizes sizes.now net → MatchOption result
+        ((source : Source) → Means (Chip (loaded_chip net directory.now) calls) text.now source → ⊥)
+        (λ found. Means (Chip (loaded_chip net directory.now) calls) text.now (source_of found)) }
 {
     if text == b"time".as_slice() {
         return Some(Variable::Time);
@@ -129,7 +139,10 @@ pub fn find_settable<'a>(
     sizes: &[u32],
     text: &[u8],
 ) -> Option<Variable<'a>>
-    ensures { (net : Net) (calls : List Call) → AreSizes sizes.now net → MatchOption result ((source : Source) → CanSet (Chip (loaded_chip net directory.now) calls) text.now source → ⊥) (λ found. CanSet (Chip (loaded_chip net directory.now) calls) text.now (source_of found)) }
+    ensures { (net : Net) (calls : List Call) → AreSizes sizes.now net → MatchOption result
+        ((source : Source)
+        → CanSet (Chip (loaded_chip net directory.now) calls) text.now source → ⊥)
+        (λ found. CanSet (Chip (loaded_chip net directory.now) calls) text.now (source_of found)) }
 {
     if text == b"time".as_slice() {
         return None;

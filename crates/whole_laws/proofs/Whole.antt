@@ -66,7 +66,7 @@ unfolding computer_tree
 reset_bit = record { width = 1; there = refl; below = omega arith }
 
 pub runs : WholeRunsLaw
-runs blocks image keys n words held =
-    let b : HasBehaviour (outside image keys) (chips_in shipped_chips blocks) (shipped_entry computer_tree) n (λ name bit c. false) =
-    existing blocks (codes "Computer") (shipped_entry computer_tree) (has_all blocks).computer (outside image keys) (record { keys = held; words = λ a. word_in image a words }) n (λ name bit c. false) in
-    (b.wires, record { has = has_all blocks; behaves = b.behaves; no_reset = λ c l. b.hears (codes "reset") 0 c reset_bit })
+runs memories image keys n words held =
+    let b : HasBehaviour (outside image keys) (chips_in shipped_chips memories) (shipped_entry computer_tree) n (λ name bit c. false) =
+    existing memories (codes "Computer") (shipped_entry computer_tree) (has_all memories).computer (outside image keys) (record { keys = held; words = λ a. word_in image a words }) n (λ name bit c. false) in
+    (b.wires, record { has = has_all memories; behaves = b.behaves; no_reset = λ c l. b.hears (codes "reset") 0 c reset_bit })

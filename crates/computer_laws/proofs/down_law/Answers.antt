@@ -6,5 +6,5 @@ use Rattle.computer_laws.proofs.down_law.Goals as goal
 pub returns : goal.returns
 returns c = record {
   faultless = comes_down;
-  shipped = λ blocks i entry at. comes_down (chips_in shipped_chips blocks) entry (c.faultless_law.ensures blocks i entry at);
+  shipped = λ memories i entry at. comes_down (chips_in shipped_chips memories) entry (c.faultless_law.ensures memories i entry at);
 }

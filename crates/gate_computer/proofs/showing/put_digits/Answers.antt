@@ -4,7 +4,7 @@ use Rattle.std.proofs.lemmas.List.{get_or_default}
 use Rattle.machine_io.proofs.Handed.{handed_as}
 use Rattle.netlist.specs.Present.{value_in}
 use Rattle.gate_computer.specs.Parts.{digit}
-use Rattle.image_map.proofs.Prints.{prints_more, prints_failed, rest_at}
+use Rattle.outer_world.proofs.Prints.{prints_more, prints_failed, rest_at}
 use Rattle.gate_computer.proofs.showing.put_digits.Goals as goal
 
 pub returns-in-Failed-clause-passes : goal.returns-in-Failed-clause-passes

@@ -3,7 +3,7 @@ use Rattle.std.proofs.Common.{◌≡◌, drop, take}
 use Rattle.std.specs.Prelude.{map}
 use Rattle.netlist.specs.Present.{value_in}
 use Rattle.gate_computer.specs.Parts.{digit}
-use Rattle.image_map.proofs.Prints.{Prints}
+use Rattle.outer_world.proofs.Prints.{Prints}
 use Rattle.gate_computer.proofs.showing.put_digits.Given as goal
 
 abbrev pub invariant-loop-node : goal.invariant-loop-node

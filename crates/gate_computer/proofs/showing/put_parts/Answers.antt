@@ -2,7 +2,7 @@ use Rattle.std.proofs.Common.{◌∙◌, ap, drop, sym, Some, ◌+◌}
 use Rattle.std.proofs.lemmas.Option.{slice_get-get_or}
 use Rattle.netlist.specs.Present.{value_in}
 use Rattle.gate_computer.specs.Inner.Reading.{wired_text}
-use Rattle.image_map.proofs.Prints.{prints_more, prints_failed, rest_at}
+use Rattle.outer_world.proofs.Prints.{prints_more, prints_failed, rest_at}
 use Rattle.gate_computer.proofs.showing.put_parts.Goals as goal
 
 pub put_part-requires : goal.put_part-requires

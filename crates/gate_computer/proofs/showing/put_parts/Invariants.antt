@@ -2,7 +2,7 @@
 use Rattle.std.proofs.Common.{◌≡◌, drop, take}
 use Rattle.netlist.specs.Present.{value_in}
 use Rattle.gate_computer.specs.Inner.Reading.{wired_text}
-use Rattle.image_map.proofs.Prints.{Prints}
+use Rattle.outer_world.proofs.Prints.{Prints}
 use Rattle.gate_computer.proofs.showing.put_parts.Given as goal
 
 abbrev pub invariant-loop-part : goal.invariant-loop-part

@@ -1,4 +1,5 @@
-use Rattle.std.proofs.Common.{◌∙◌, sym, subst, arith, true}
+use Rattle.std.proofs.Common.{◌∙◌, sym, subst, arith}
+use Rattle.hdl_tree.specs.declared.ends.Memories.TheVariants.{Blocks}
 use Rattle.gate_computer.specs.Inner.Directory.{CanTell, IsToldBy}
 use Rattle.gate_computer.proofs.Counting.{nodes}
 use Rattle.gate_computer.proofs.Wired.{can_tell, is_wired, some_is}
@@ -21,5 +22,5 @@ returns-clause-parts c = some_is _ _ c.in_ok-wiring.ensures.wired
 pub returns-clause-few : goal.returns-clause-few
 returns-clause-few c =
     let flat = c.requires.elaborated in
-    let count = flat.count ∙ nodes.count true flat.tree flat.listed in
+    let count = flat.count ∙ nodes.count Blocks flat.tree flat.listed in
     omega (arith, count)
