@@ -1,7 +1,8 @@
 -- The parts of the Computer can be listed: each chip of a library whose texts are clean has a tree.
-use Rattle.std.proofs.Common.{◌≡◌, ◌<◌, ℕ, zero, suc, true, List, [], ◌∷◌, Some, slice_get, codes, refl, arith}
+use Rattle.std.proofs.Common.{◌≡◌, ◌<◌, ℕ, zero, suc, List, [], ◌∷◌, Some, slice_get, codes, refl, arith}
 use Rattle.hdl_tree.specs.declared.tree.Part.{Part}
 use Rattle.hdl_tree.specs.declared.library.Entry.{Entry}
+use Rattle.hdl_tree.specs.declared.ends.Memories.TheVariants.{Blocks}
 use Rattle.hdl_tree.specs.Chips.{Chips, find_chip, parts_of}
 use Rattle.hdl_flatten.specs.Trees.{AreListed, IsTree, PartIn, next, none}
 use Rattle.hdl_behaviours.specs.Clean.{AreClean, place_of}
@@ -42,4 +43,4 @@ module _ (library : Chips) (are : AreClean library) where
       let here = find_in library.entries name chip found in tree_below (suc (place_of library.entries chip.name)) here.place chip here.there (omega arith)
 
 pub computer_parts : (places : List PartIn) × AreComputerParts places
-computer_parts = tree_found chips (clean true) (codes "Computer") computer (has_all true).computer
+computer_parts = tree_found chips (clean Blocks) (codes "Computer") computer (has_all Blocks).computer

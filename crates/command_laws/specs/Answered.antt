@@ -1,5 +1,6 @@
--- Over known files each line that is no test script has an answer: it is done, it is refused, or something that it reads is not there. So no line
--- is left to want of memory alone, whatever its files hold. (That it has one such answer at most is said in Exact.)
+-- Over known files each line that is no test script has an answer: it is done, it is refused, or something that it
+-- reads is not there. So no line is left to want of memory alone, whatever its files hold. (That it has one such answer
+-- at most is said in Exact.)
 use Rattle.std.specs.Prelude.{◌⊎◌, ℕ, Bool, List, Some}
 use Rattle.outer_world.specs.Files.{Files}
 use Rattle.jack_tree.specs.Syntax.{ClassFile}
@@ -11,7 +12,8 @@ use Rattle.command_line.specs.Line.{ClassWork, FileWork, IsNoTest, Line, Source,
 use Rattle.nand_cli.specs.Answer.{Lacks, Prints, Refuses}
 use Rattle.nand_cli.specs.JackFolder.{FolderIsRefused, FolderMeans, HasClasses}
 
--- Among these folders and files the line prints something, or it is refused with something, or something that it reads is not there.
+-- Among these folders and files the line prints something, or it is refused with something, or something that it reads
+-- is not there.
 abbrev pub HasAnswer : (List ℕ → Bool) → Files → Line → Type 0
 HasAnswer there files line =
     ((out err : List ℕ) × Prints (Some files) line out err)

@@ -13,8 +13,8 @@ use Rattle.nand_cli.specs.Answer.{Disagrees, Lacks, Prints, Refuses}
 use Rattle.nand_cli.specs.Commands.Test.{script_at}
 use Rattle.nand_cli.specs.JackFolder.{FolderMeans}
 
--- What is shown at the level is one text. The outputs of parts are those of some behaviour of the Computer; that it has no other is not
--- claimed.
+-- What is shown at the level is one text. The outputs of parts are those of some behaviour of the Computer; that it has
+-- no other is not claimed.
 abbrev pub ShowsOneText : RunLevel → Type 0
 ShowsOneText (Gates Nets) = ⊥
 ShowsOneText level = Unit {0}
@@ -29,9 +29,10 @@ HasFolder there (of_classes source work) = there source.folder ≡ true
 HasFolder there (vm folder bare) = there folder ≡ true
 HasFolder there line = Unit {0}
 
--- Over these files let the line show one text. Then it prints at most one thing on out and on err, is refused with at most one, and is not both
--- done and refused. Where its folder is there and something that it reads is not, it is neither: so an honest shelf leaves no choice among Done,
--- Refused and ReadFault. (A folder that is not there may be read as an empty one.)
+-- Over these files let the line show one text. Then it prints at most one thing on out and on err, is refused with at
+-- most one, and is not both done and refused. Where its folder is there and something that it reads is not, it is
+-- neither: so an honest shelf leaves no choice among Done, Refused and ReadFault. (A folder that is not there may be
+-- read as an empty one.)
 pub record IsExact (files : Files) (line : Line) : Type 0 where
   pub prints : HasOneText line → (out err out' err' : List ℕ) → Prints (Some files) line out err → Prints (Some files) line out' err' → (out ≡ out') × (err ≡ err')
   pub refuses : (out before told out' before' told' : List ℕ) → Refuses (Some files) line out before told → Refuses (Some files) line out' before' told' → (out ≡ out') × (told ≡ told') × (before ≡ before')
@@ -54,8 +55,9 @@ ChipExactLaw = (files : Files) (name : List ℕ) → IsExact files (chip name)
 abbrev pub SoakExactLaw : Type 0
 SoakExactLaw = (files : Files) (seed count : ℕ) → IsExact files (soak seed count)
 
--- Over these files let the line be one of `test`. Then its script prints at most one thing on out and on err, is refused with at most one line, but
--- for the nets of a loop, and differs in at most one line. It is not two of done, refused and different.
+-- Over these files let the line be one of `test`. Then its script prints at most one thing on out and on err. It is
+-- refused with at most one line, but for the nets of a loop, and differs in at most one line. It is not two of done,
+-- refused and different.
 pub record TestIsExact (files : Files) (path : List ℕ) (gates simplify : Bool) : Type 0 where
   pub prints : (out err out' err' : List ℕ) → Prints (Some files) (test path gates simplify) out err → Prints (Some files) (test path gates simplify) out' err' → (out ≡ out') × (err ≡ err')
   pub refuses : (out before told out' before' told' : List ℕ) → Refuses (Some files) (test path gates simplify) out before told → Refuses (Some files) (test path gates simplify) out' before' told' → (out ≡ out') × (before ≡ before') × SameButNets (script_at (Some files) path gates) told told'

@@ -1,4 +1,5 @@
--- The law of `vm`: the image of the program that the VM files of a folder spell does what the program does. (The book, chapters 7 and 8.)
+-- The law of `vm`: the image of the program that the VM files of a folder spell does what the program does. (The book,
+-- chapters 7 and 8.)
 use Rattle.std.specs.Prelude.{◌≤◌, ℕ, false, List, Option, Ok, length, map}
 use Rattle.hack_isa.specs.Machine.{image_words}
 use Rattle.hack_isa.specs.Table.{word_of}
@@ -12,8 +13,8 @@ use Rattle.vm_translator.specs.Image.{image_map_of, image_of}
 use Rattle.vm_translator.specs.Translated.{IsTranslated}
 use Rattle.nand_cli.specs.Commands.Vm.{HasProgram}
 
--- The image of the program of a folder does what the program does. (No command that is read from text is a commit, so calls, returns and comparisons
--- are all alike.)
+-- The image of the program of a folder does what the program does. (No command that is read from text is a commit, so
+-- calls, returns and comparisons are all alike.)
 abbrev pub VmDoesLaw : Type 0
 VmDoesLaw =
     (files : Option Files) (folder : List ℕ) (program : List File) (linked : Linked) → HasProgram false files folder program → Links false program (Ok linked)

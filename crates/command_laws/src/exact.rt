@@ -43,7 +43,7 @@ pub fn soak_exact_law()
     classes_exact_law();
 }
 
-/// Law: over known files a test script prints at most one thing, is refused for at most one, but for the nets of a
+/// Law: over known files a test script prints at most one thing. It is refused for at most one, but for the nets of a
 /// loop, and differs in at most one line. It is at most one of these.
 pub fn test_exact_law()
     ensures { TestExactLaw }

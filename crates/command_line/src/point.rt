@@ -53,7 +53,8 @@ fn is_subroutine(text: &str) -> bool
 
 /// The statement that a word names: the name of its subroutine, and its number.
 pub fn point(word: &str) -> Option<(&str, u32)>
-    ensures { MatchOption result ((sub : List ℕ) (k : ℕ) → ¬ IsPointWord word.now sub k) (λ p. IsPointWord word.now p.0.now p.1) }
+    ensures { MatchOption result ((sub : List ℕ) (k : ℕ) → ¬ IsPointWord word.now sub k)
+        (λ p. IsPointWord word.now p.0.now p.1) }
 {
     let (sub, digits) = cut(word, ':');
     if !is_subroutine(sub) {

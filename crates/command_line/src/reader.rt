@@ -353,7 +353,10 @@ fn reading<'a>(name: &str, matches: &ArgMatches<'a>) -> Option<Request<'a>>
 
 // The request of the command that the matches have entered.
 fn entered<'a>(matches: &ArgMatches<'a>) -> Option<Request<'a>>
-    ensures { MatchOption result ((l : Line) (name : Text) (rows : List Row) → subcommand_rows_of matches.now ≡ Some (name, rows) → ¬ IsReading name rows l) (λ r. (name : Text) × (rows : List Row) × (subcommand_rows_of matches.now ≡ Some (name, rows)) × IsReading name rows (line_of r)) }
+    ensures { MatchOption result ((l : Line) (name : Text) (rows : List Row)
+        → subcommand_rows_of matches.now ≡ Some (name, rows) → ¬ IsReading name rows l)
+        (λ r. (name : Text) × (rows : List Row)
+        × (subcommand_rows_of matches.now ≡ Some (name, rows)) × IsReading name rows (line_of r)) }
 {
     let Some((name, inner)) = matches.subcommand() else {
         return None;
@@ -366,7 +369,8 @@ fn entered<'a>(matches: &ArgMatches<'a>) -> Option<Request<'a>>
 /// # Errors
 /// `Usage` where they are no line; `Memory` where there is too little of it.
 pub fn read<'a>(alloc: Global, words: &'a [String]) -> Result<Request<'a>, LineError>
-    ensures line { MatchResult result (λ r. IsLine (map string_bytes words.now) (line_of r)) (λ e. e ≡ LineError.Usage → IsNoLine (map string_bytes words.now)) }
+    ensures line { MatchResult result (λ r. IsLine (map string_bytes words.now) (line_of r))
+        (λ e. e ≡ LineError.Usage → IsNoLine (map string_bytes words.now)) }
     ensures range { IfOk result (λ r. IsInRange (line_of r)) }
 {
     let Ok(command) = table(alloc) else {

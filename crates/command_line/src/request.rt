@@ -3,7 +3,7 @@
 use machine_io::Show;
 
 /// Where the Jack classes of a program are read.
-#[derive(Clone, Copy, Debug, PartialEq, Eq)]
+#[derive(Clone, Copy, PartialEq, Eq)]
 pub struct Source<'a> {
     /// Their folder.
     pub folder: &'a str,
@@ -12,7 +12,7 @@ pub struct Source<'a> {
 }
 
 /// `exec F --cycles N --from A --to B`: words of the memory after a run of the instruction machine.
-#[derive(Clone, Copy, Debug, PartialEq, Eq)]
+#[derive(Clone, Copy, PartialEq, Eq)]
 pub struct Exec {
     /// How many cycles are made, at most 1,000,000,000.
     pub cycles: u32,
@@ -23,7 +23,7 @@ pub struct Exec {
 }
 
 /// The kinds of source texts.
-#[derive(Clone, Copy, Debug, PartialEq, Eq)]
+#[derive(Clone, Copy, PartialEq, Eq)]
 pub enum SourceKind {
     /// A VM text: `.vm`.
     Vm,
@@ -34,7 +34,7 @@ pub enum SourceKind {
 }
 
 /// What is shown after a report.
-#[derive(Clone, Copy, Debug, PartialEq, Eq)]
+#[derive(Clone, Copy, PartialEq, Eq)]
 pub enum Shown {
     /// Words of the memory.
     Words(Show),
@@ -43,7 +43,7 @@ pub enum Shown {
 }
 
 /// The levels at which a program can be run, each with what is shown after its report.
-#[derive(Clone, Copy, Debug, PartialEq, Eq)]
+#[derive(Clone, Copy, PartialEq, Eq)]
 pub enum RunLevel {
     /// The meaning of the Jack text.
     Jack(Show),
@@ -58,7 +58,7 @@ pub enum RunLevel {
 }
 
 /// `run D --level L --cycles N [--keys F] [--show W] [--replace] [--simplify]`: the report of a run of a program.
-#[derive(Clone, Copy, Debug, PartialEq, Eq)]
+#[derive(Clone, Copy, PartialEq, Eq)]
 pub struct Run<'a> {
     /// The level, with what is shown after the report.
     pub level: RunLevel,
@@ -69,7 +69,7 @@ pub struct Run<'a> {
 }
 
 /// The forms of a map.
-#[derive(Clone, Copy, Debug, PartialEq, Eq)]
+#[derive(Clone, Copy, PartialEq, Eq)]
 pub enum MapFormat {
     /// Form 1: the control points of the image, its commits and its shared routines.
     Points,
@@ -78,7 +78,7 @@ pub enum MapFormat {
 }
 
 /// `debug D --break SUB:K --cycles N [--keys F] [--replace]`: what the computer made of gates shows where it comes to a statement.
-#[derive(Clone, Copy, Debug, PartialEq, Eq)]
+#[derive(Clone, Copy, PartialEq, Eq)]
 pub struct DebugRun<'a> {
     /// The name of the statement's subroutine, as `Main.main`; or `start`.
     pub sub: &'a str,
@@ -91,7 +91,7 @@ pub struct DebugRun<'a> {
 }
 
 /// What is done with the Jack classes of a source.
-#[derive(Clone, Copy, Debug, PartialEq, Eq)]
+#[derive(Clone, Copy, PartialEq, Eq)]
 pub enum ClassWork<'a> {
     /// `compile D [--replace]`: the VM text of a folder's own classes.
     Compile,
@@ -104,7 +104,7 @@ pub enum ClassWork<'a> {
 }
 
 /// What is done with one file.
-#[derive(Clone, Copy, Debug, PartialEq, Eq)]
+#[derive(Clone, Copy, PartialEq, Eq)]
 pub enum FileWork {
     /// `asm F`: the words of an assembly file, as `.hack` text.
     Asm,
@@ -114,7 +114,7 @@ pub enum FileWork {
 }
 
 /// A line, by what it reads: a command with its values.
-#[derive(Clone, Copy, Debug, PartialEq, Eq)]
+#[derive(Clone, Copy, PartialEq, Eq)]
 pub enum Request<'a> {
     /// A work with the Jack classes of a folder.
     Classes {

@@ -32,6 +32,7 @@ use Rattle.jack_debug.proofs.Views.{walk_law}
 use Rattle.tower.specs.Image.{IsImageOf}
 use Rattle.vm_debug.specs.Program.{ArePlacesOf}
 use Rattle.command_line.specs.Line.{Source, debug, of_classes}
+use Rattle.outer_world.specs.State.{shelf_state}
 use Rattle.nand_cli.specs.Answer.{Lacks}
 use Rattle.nand_cli.specs.Commands.Build.{BuildRefuses}
 use Rattle.nand_cli.specs.Commands.Debug.{DebugPrints, DebugRefuses, HasStatement, IsAt, IsDebugReport, ShowsNone, ShowsStop, TellsStop, no_point, none_text, stop_text, stopped, unstopped, without_image, without_point, without_script}
@@ -162,14 +163,14 @@ module _ (files : Option Files) (there : List ℕ → Bool) (steady : Type 0) (s
       (λ told k. without_script p.places (here_of p is) has k) (λ k s. lacks_script files p.places (here_of p is) has (k s)) h
 
   -- a line that is not prepared does nothing
-  pub undone : (out err : Option (List ℕ)) (e : LoadError) → Unprepared e → Does files there steady (of_classes source (debug sub number cycles keys)) out out err err (Err (failure.Unloaded e))
+  pub undone : (out err : Option (List ℕ)) (e : LoadError) → Unprepared e → Does (shelf_state files there steady) (of_classes source (debug sub number cycles keys)) out out err err (Err (failure.Unloaded e))
   undone out err e h =
       nothing_put (IsPreparedDebug files source sub number keys) (DebugRefuses files source sub number keys) Missed files there steady (of_classes source (debug sub number cycles keys)) out err e
       (λ told k. (refl, k, refl)) (λ k. k) h tt
 
   -- what a prepared line does
   pub answered : (p : PreparedDebug) (out out' err : Option (List ℕ)) (r : Result (Unit {0}) Failure) → IsPreparedDebug files source sub number keys p → Reports (TellsDriven p sub number cycles) out out' r
-      → Does files there steady (of_classes source (debug sub number cycles keys)) out out' err err r
+      → Does (shelf_state files there steady) (of_classes source (debug sub number cycles keys)) out out' err err r
   answered p out out' err (Ok u) is (text, told, got) = (text, [], (prints p text is told, refl), got, Got-nothing err)
   answered p out out' err (Err failure.Out) is (text, told, part) = (take part.0 text, [], (text, part.0, (prints p text is told, refl), refl, refl), part.1, Got-nothing err)
   answered p out out' err (Err (failure.Differs d)) is h = absurd h

@@ -10,6 +10,7 @@ use Rattle.command_line.specs.Line.{IsNoTest, Line, chip, of_classes, of_file, s
 use Rattle.source_files.specs.Loads.{CountsLoad, Loads, line_of}
 use Rattle.source_files.specs.declared.error.LoadError.{LoadError}
 use Rattle.source_files.specs.declared.error.LoadError.TheVariants as errors
+use Rattle.outer_world.specs.State.{shelf_state}
 use Rattle.nand_cli.specs.Answer.{CutsOut, Lacks, Misses, Prints, Refuses, Starves}
 use Rattle.nand_cli.specs.Inner.Parts.{Counts, Does, finish_result}
 use Rattle.nand_cli.specs.declared.failure.Failure.TheVariants as failure
@@ -43,7 +44,7 @@ cuts_other files (soak seed count) text n other prints = (text, n, prints, refl,
 -- nothing is put of what is not loaded
 pub nothing_put : {A : Type 0} (good : A → Type 0) (refused : List ℕ → Type 0) (missed : Type 0) (files : Option Files) (there : List ℕ → Bool) (unfailing : Type 0) (line : Line) (out err : Option (List ℕ)) (e : LoadError)
     → ((text : List ℕ) → refused text → Refuses files line [] [] text) → (missed → unfailing → IfSome files (λ told. Lacks there told line)) → Loads good refused missed (Err e) → IsNoTest line
-    → Does files there unfailing line out out err err (Err (failure.Unloaded e))
+    → Does (shelf_state files there unfailing) line out out err err (Err (failure.Unloaded e))
 nothing_put good refused missed files there unfailing line out err (errors.Refused r) more may h other = ([], [], more (line_of r) h, Got-nothing out, Got-nothing err)
 nothing_put good refused missed files there unfailing line out err errors.Failed more may h other = ([], [], misses_other files there unfailing line other (may h), Got-nothing out, Got-nothing err)
 nothing_put good refused missed files there unfailing line out err errors.Memory more may h other = ([], [], starves_other files line other, Got-nothing out, Got-nothing err)
@@ -67,7 +68,7 @@ missing (Some told) there folder line so h = so told h
 -- ---- what is put
 
 pub done_by : (files : Option Files) (there : List ℕ → Bool) (unfailing : Type 0) (line : Line) (text : List ℕ) (out out' err : Option (List ℕ)) (p : Put) → Prints files line text [] → Puts out out' text p
-    → IsNoTest line → Does files there unfailing line out out' err err (finish_result p)
+    → IsNoTest line → Does (shelf_state files there unfailing) line out out' err err (finish_result p)
 done_by files there unfailing line text out out' err put.Done prints puts other = (text, [], prints, puts, Got-nothing err)
 done_by files there unfailing line text out out' err put.Failed prints puts other = (take puts.0 text, [], cuts_other files line text puts.0 other prints, puts.1, Got-nothing err)
 

@@ -27,6 +27,7 @@ use Rattle.command_line.specs.Line.{Source, of_classes, run}
 use Rattle.command_line.specs.declared.request.RunLevel.{RunLevel}
 use Rattle.command_line.specs.declared.request.RunLevel.TheVariants as levels
 use Rattle.tower.specs.Image.{IsImageOf}
+use Rattle.outer_world.specs.State.{shelf_state}
 use Rattle.nand_cli.specs.Answer.{Lacks}
 use Rattle.nand_cli.specs.JackFolder.{BuildIsRefused, FolderIsRefused, FolderMeans, IsBuilt}
 use Rattle.nand_cli.specs.Inner.Parts.{Counts, Does, finish_result}
@@ -74,7 +75,7 @@ reported_as P Q out out' (Err failure.Echo) more h = absurd h
 module _ (level : RunLevel) (files : Option Files) (there : List ℕ → Bool) (steady : Type 0) (source : Source) (n : ℕ) (keys : Option (List ℕ)) where
   -- with a report
   pub answered : (core : Core) (lines : List Line) (out out' err : Option (List ℕ)) (r : Result (Unit {0}) Failure) → FolderMeans files source core → IsBuilt core → HasKeys files keys lines
-      → Reports (IsReport level core (code_at lines) n) out out' r → Does files there steady (of_classes source (run level n keys)) out out' err err r
+      → Reports (IsReport level core (code_at lines) n) out out' r → Does (shelf_state files there steady) (of_classes source (run level n keys)) out out' err err r
   answered core lines out out' err (Ok u) means built has (text, is, got) = (text, [], ((core, lines, means, built, has, is), refl), got, Got-nothing err)
   answered core lines out out' err (Err failure.Out) means built has (text, is, part) = (take part.0 text, [], (text, part.0, ((core, lines, means, built, has, is), refl), refl, refl), part.1, Got-nothing err)
   answered core lines out out' err (Err (failure.Differs d)) means built has h = absurd h
@@ -86,7 +87,7 @@ module _ (level : RunLevel) (files : Option Files) (there : List ℕ → Bool) (
 
   -- of what is prepared for it
   pub shown : (p : PreparedRun) (out out' err : Option (List ℕ)) (r : Result (Unit {0}) Failure) → IsPrepared files source level n keys p
-      → Reports (λ text. IsReport (level_of p.machine) p.core (code_at p.keys) p.cycles text × TellsAtMost p.cycles text) out out' r → Does files there steady (of_classes source (run level n keys)) out out' err err r
+      → Reports (λ text. IsReport (level_of p.machine) p.core (code_at p.keys) p.cycles text × TellsAtMost p.cycles text) out out' r → Does (shelf_state files there steady) (of_classes source (run level n keys)) out out' err err r
   shown p out out' err r is h =
       let one = IsReport (level_of p.machine) p.core (code_at p.keys) p.cycles in
       let told = reported_as (λ text. one text × TellsAtMost p.cycles text) one out out' r (λ text both. both.0) h in
@@ -122,7 +123,7 @@ module _ (level : RunLevel) (files : Option Files) (there : List ℕ → Bool) (
       (λ told k. without_script core means built k) (λ k s. without_script_file files core means built (k s)) h
 
   -- a line that is not prepared does nothing
-  pub undone : (out err : Option (List ℕ)) (e : LoadError) → Unprepared e → Does files there steady (of_classes source (run level n keys)) out out err err (Err (failure.Unloaded e))
+  pub undone : (out err : Option (List ℕ)) (e : LoadError) → Unprepared e → Does (shelf_state files there steady) (of_classes source (run level n keys)) out out err err (Err (failure.Unloaded e))
   undone out err e h =
       nothing_put (IsPrepared files source level n keys) (RunRefuses files source keys) Missed files there steady (of_classes source (run level n keys)) out err e
       (λ told k. (refl, k, refl)) (λ k. k) h tt

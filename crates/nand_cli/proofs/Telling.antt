@@ -11,6 +11,7 @@ use Rattle.command_line.specs.declared.reader.LineError.TheVariants as no_line
 use Rattle.tst_runner.specs.Verdicts.{difference_line}
 use Rattle.source_files.specs.Loads.{line_of}
 use Rattle.source_files.specs.declared.error.LoadError.TheVariants as errors
+use Rattle.outer_world.specs.State.{shelf_state}
 use Rattle.nand_cli.specs.Answer.{Answers, Causes, Promises}
 use Rattle.nand_cli.specs.Outside.{Outside}
 use Rattle.nand_cli.specs.Inner.Parts.{Counts, Does, TellsFailure, TellsNoLine}
@@ -52,7 +53,7 @@ not_read words before after error s none kept stays out shelf quiet tells = reco
 -- too
 
 module _ (words : List (List ℕ)) (before after : Outside) (line : Line) (is_line : IsLine words line) (between : Option (List ℕ)) (count : ℕ) where
-  failure_answers : (why : Failure) (s : Status) → Does before.files before.there before.unfailing line before.out after.out before.err between (Err why)
+  failure_answers : (why : Failure) (s : Status) → Does (shelf_state before.files before.there before.unfailing) line before.out after.out before.err between (Err why)
       → Counts before.shelf_faults after.shelf_faults before.out_faults after.out_faults before.err_faults count (Err why)
       → TellsFailure why count after.err_faults between after.err s → Answers words before after s
   failure_answers (failure.Unloaded (errors.Refused r)) s (o, e, ends, got, there) (a, b, c) (put.Done, said, so) =
@@ -149,7 +150,7 @@ module _ (words : List (List ℕ)) (before after : Outside) (line : Line) (is_li
   failure_causes failure.Out s (a, rose, c) (so, counts, same) = rw so (inl rose, a)
   failure_causes failure.Echo s (a, b, rose) (so, counts, same) = rw so (inr (subst (λ n. Rose before.err_faults n) (sym counts) rose), inl a)
 
-  pub failed : (why : Failure) (s : Status) → after.files ≡ before.files → after.there ≡ before.there → Does before.files before.there before.unfailing line before.out after.out before.err between (Err why)
+  pub failed : (why : Failure) (s : Status) → after.files ≡ before.files → after.there ≡ before.there → Does (shelf_state before.files before.there before.unfailing) line before.out after.out before.err between (Err why)
       → Counts before.shelf_faults after.shelf_faults before.out_faults after.out_faults before.err_faults count (Err why)
       → TellsFailure why count after.err_faults between after.err s → Promises words before after s
   failed why s kept stays does counts tells = record {
@@ -162,7 +163,7 @@ module _ (words : List (List ℕ)) (before after : Outside) (line : Line) (is_li
 -- ---- a line that is done
 
 pub done : (words : List (List ℕ)) (before after : Outside) (line : Line) → IsLine words line → after.files ≡ before.files → after.there ≡ before.there
-    → Does before.files before.there before.unfailing line before.out after.out before.err after.err (Ok tt)
+    → Does (shelf_state before.files before.there before.unfailing) line before.out after.out before.err after.err (Ok tt)
     → Counts before.shelf_faults after.shelf_faults before.out_faults after.out_faults before.err_faults after.err_faults (Ok tt) → Promises words before after status.Done
 done words before after line is_line kept stays (o, e, prints, out, err) counts = record {
   answers = (o, e, inr (line, is_line, prints), out, err);

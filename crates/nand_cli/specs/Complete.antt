@@ -1,5 +1,6 @@
--- Completeness. Let nothing be wrong with the Jack classes that a line reads and with its key script, and let no call of the outside fail. Then the
--- line is done, but for want of memory. So is every line that is not refused. (The book, chapters 4 and 7 to 12.)
+-- Completeness. Let nothing be wrong with the Jack classes that a line reads and with its key script, and let no call
+-- of the outside fail. Then the line is done, but for want of memory. So is every line that is not refused. (The book,
+-- chapters 4 and 7 to 12.)
 use Rattle.std.specs.Prelude.{◌≡◌, ◌≤◌, ◌⊎◌, ℕ, Bool, true, false, List, Option, Some, length}
 use Rattle.hack_isa.specs.Machine.{image_words}
 use Rattle.outer_world.specs.Faults.{Rose}
@@ -28,7 +29,8 @@ use Rattle.nand_cli.specs.declared.command.Status.TheVariants as status
 
 -- ---- a program that can be built
 
--- The static words of VM files: one more than the greatest index of a static that the kept functions of a file name, together for all files.
+-- The static words of VM files: one more than the greatest index of a static that the kept functions of a file name,
+-- together for all files.
 abbrev pub HasStatics : List File → ℕ → Type 0
 HasStatics files words = (kept : List Section) × AreKept false (sections false files) kept × (words ≡ words_before kept (length files))
 
@@ -46,14 +48,15 @@ HasSmallBudget program = (words : ℕ) × IsBudget program words × (words ≤ i
 abbrev pub HasNoNameFault : List ClassFile → List ClassFile → Type 0
 HasNoNameFault own os = (at : Spot) (told : NameDiagnostic) → told.shipped ≡ false → Fails own os at told → ⊥
 
--- The names are right: of the folder, where the whole operating system stands beside it, whose names are right by its law; and where the folder's
--- classes replace, of both.
+-- The names are right: of the folder, where the whole operating system stands beside it, whose names are right by its
+-- law; and where the folder's classes replace, of both.
 abbrev pub HasRightNames : Bool → List ClassFile → List ClassFile → Type 0
 HasRightNames false own os = HasNoNameFault own os
 HasRightNames true own os = IsWellNamed own os
 
--- The folder has at most 256 Jack files, each of which spells a class within the limits of the language. With those of the operating system
--- beside them, which there are by its law, the names are right. Their program has at most 240 static words, and its budget is at most 32,768.
+-- The folder has at most 256 Jack files, each of which spells a class within the limits of the language. With those of
+-- the operating system beside them, which there are by its law, the names are right. Their program has at most 240
+-- static words, and its budget is at most 32,768.
 pub record IsSoundFolder (files : Files) (source : Source) : Type 0 where
   pub own : List ClassFile
   pub spelled : HasClasses (Some files) source.folder own
@@ -72,8 +75,8 @@ abbrev pub IsSoundPoint : Files → Source → ClassWork → Type 0
 IsSoundPoint files source (debug sub number cycles keys) = IsSoundStatement files source sub number
 IsSoundPoint files source work = Unit {0}
 
--- Nothing is wrong with the folder, the key script and the statement of a line that reads Jack classes: of `compile`, `build`, `map`, `run` or
--- `debug`.
+-- Nothing is wrong with the folder, the key script and the statement of a line that reads Jack classes: of `compile`,
+-- `build`, `map`, `run` or `debug`.
 abbrev pub IsSound : Files → Line → Type 0
 IsSound files (of_classes source work) = IsSoundFolder files source × IsSoundScript files (script_of work) × IsSoundPoint files source work
 IsSound files line = ⊥

@@ -31,7 +31,8 @@ HasClasses files folder own = FolderSpells SpellsFile (codes ".jack") files fold
 abbrev pub FolderMeans : Option Files → Source → Core → Type 0
 FolderMeans files source core = (classes : List Class) × HasClasses files source.folder (map the_file classes) × Means source.replace classes (Ok core)
 
--- the VM files of the program that the folder's classes mean with those of the operating system: a file for each class, the folder's first
+-- the VM files of the program that the folder's classes mean with those of the operating system: a file for each class,
+-- the folder's first
 abbrev pub files_meant : List ClassFile → List ClassFile → List File
 files_meant own os = program_files (program_meaning own os) (program_names own os) (class_names own ++ class_names os)
 
@@ -44,8 +45,8 @@ abbrev pub name_line : List ℕ → NameDiagnostic → List ℕ
 name_line folder told =
     message_line (path_in (home_of folder told.shipped) told.file) (message told.place.line told.place.column (kind_word told.kind) told.name)
 
--- The classes mean no program, and this line says why: it reports the first fault of their names, by stage, file, place and
--- kind.
+-- The classes mean no program, and this line says why: it reports the first fault of their names, by stage, file, place
+-- and kind.
 abbrev pub IsMeaningless : Source → List ClassFile → List ℕ → Type 0
 IsMeaningless source own line =
     (os : List ClassFile) × (told : NameDiagnostic) × AreFilesOf (system_beside source.replace own) os × IsFirstByPlace own os told

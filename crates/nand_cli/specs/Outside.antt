@@ -1,6 +1,7 @@
 -- What is outside of a call, as far as it is known.
 use Rattle.std.specs.Prelude.{ℕ, Bool, List, Option}
 use Rattle.outer_world.specs.Files.{Files}
+use Rattle.outer_world.specs.State.{ShelfState}
 
 pub record Outside : Type 1 where
   -- the files of the shelf, where they are known
@@ -17,11 +18,11 @@ pub record Outside : Type 1 where
   pub out_faults : ℕ
   pub err_faults : ℕ
 
-abbrev pub outside : Option Files → (List ℕ → Bool) → Type 0 → Option (List ℕ) → Option (List ℕ) → ℕ → ℕ → ℕ → Outside
-outside files there unfailing out err shelf_faults out_faults err_faults = record {
-  files = files;
-  there = there;
-  unfailing = unfailing;
+abbrev pub outside : ShelfState → Option (List ℕ) → Option (List ℕ) → ℕ → ℕ → ℕ → Outside
+outside shelf out err shelf_faults out_faults err_faults = record {
+  files = shelf.files;
+  there = shelf.there;
+  unfailing = shelf.unfailing;
   out = out;
   err = err;
   shelf_faults = shelf_faults;

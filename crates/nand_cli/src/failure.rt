@@ -12,8 +12,8 @@ use source_files::{LoadError, Refusal};
 use std::alloc::{AllocError, AllocFailed};
 use tst_runner::Difference;
 
-/// Why a line is not done. What it needs is not loaded or made, a line differs from the one to compare it with, or out could not be written, or
-/// an echo on err.
+/// Why a line is not done. What it needs is not loaded or made, a line differs from the one to compare it with, or out
+/// could not be written, or an echo on err.
 #[derive(Drop)]
 pub enum Failure {
     Unloaded(LoadError),
@@ -58,35 +58,40 @@ pub fn finished(put: Put) -> Result<(), Failure>
 
 /// Puts the line of a refusal.
 pub fn tell_refusal<E: Sink>(refusal: &Refusal, err: &mut E) -> Put
-    ensures { Says (E.faults err.old) (E.faults err.new) (E.written err.old) (E.written err.new) (line_of refusal.now) result }
+    ensures { Says (E.faults err.old) (E.faults err.new) (E.written err.old) (E.written err.new)
+        (line_of refusal.now) result }
 {
     refusal.diagnostic.put(refusal.path.as_str(), err)
 }
 
 /// Puts the message of a line that differs.
 pub fn tell_difference<E: Sink>(difference: &Difference, err: &mut E) -> Put
-    ensures { Says (E.faults err.old) (E.faults err.new) (E.written err.old) (E.written err.new) (difference_line difference.now) result }
+    ensures { Says (E.faults err.old) (E.faults err.new) (E.written err.old) (E.written err.new)
+        (difference_line difference.now) result }
 {
     difference.put(err)
 }
 
 /// Puts the line that says that the words are no line.
 pub fn tell_usage<E: Sink>(err: &mut E) -> Put
-    ensures { Says (E.faults err.old) (E.faults err.new) (E.written err.old) (E.written err.new) usage_line result }
+    ensures { Says (E.faults err.old) (E.faults err.new) (E.written err.old)
+        (E.written err.new) usage_line result }
 {
     err.put(b"usage: nand COMMAND ARGUMENTS\n")
 }
 
 /// Puts the message of a fault of the shelf.
 pub fn tell_read_fault<E: Sink>(err: &mut E) -> Put
-    ensures { Says (E.faults err.old) (E.faults err.new) (E.written err.old) (E.written err.new) read_fault_line result }
+    ensures { Says (E.faults err.old) (E.faults err.new) (E.written err.old)
+        (E.written err.new) read_fault_line result }
 {
     err.put(b"nand: read fault\n")
 }
 
 /// Puts the message of want of memory.
 pub fn tell_memory<E: Sink>(err: &mut E) -> Put
-    ensures { Says (E.faults err.old) (E.faults err.new) (E.written err.old) (E.written err.new) want_of_memory_line result }
+    ensures { Says (E.faults err.old) (E.faults err.new) (E.written err.old)
+        (E.written err.new) want_of_memory_line result }
 {
     err.put(b"nand: want of memory\n")
 }

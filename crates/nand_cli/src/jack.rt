@@ -9,7 +9,8 @@ ghost use Rattle.tower.specs.Image.{IsImageOf};
 ghost use Rattle.tower.specs.Program.{Means};
 ghost use Rattle.tower.specs.Spelled.{AreSpelled};
 ghost use Rattle.jack_names.specs.Messages.{name_message};
-ghost use Rattle.outer_world.specs.Files.{LacksFolder, path_in};
+ghost use Rattle.outer_world.specs.Files.{path_in};
+ghost use Rattle.outer_world.specs.State.{Keeps, MissesFolder};
 ghost use Rattle.source_files.specs.Loads.{CountsLoad, Loads, Refused};
 ghost use Rattle.nand_cli.specs.Commands.Build.{BuildRefuses, FolderBuilds};
 ghost use Rattle.nand_cli.specs.Inner.Parts.{TellsWrong};
@@ -56,7 +57,8 @@ fn home(folder: &str, shipped: bool) -> &str
 
 // The refusal of a name.
 fn name_refused(alloc: Global, folder: &str, fault: NameFault) -> LoadError
-    ensures { Refused (path_in (home_of folder.now fault.shipped) fault.file) (name_message fault) result }
+    ensures { Refused (path_in (home_of folder.now fault.shipped) fault.file)
+        (name_message fault) result }
 {
     match path_in(alloc, home(folder, fault.shipped), fault.file.as_str()) {
         Ok(path) => LoadError::refused(alloc, path.as_str(), fault.diagnostic()),
@@ -78,7 +80,8 @@ pub fn not_meant(alloc: Global, folder: &str, error: ProgramError) -> LoadError
 pub fn program_of(alloc: Global, source: &Source<'_>, classes: &[Class]) -> Result<Core, LoadError>
     requires few { length classes.now ≤ 256 }
     requires spelled { AreSpelled classes.now }
-    ensures makes { Loads (λ (core : Core). Means source.now.replace classes.now (Ok core)) (IsMeaningless (source_of source.now) (map the_file classes.now)) ⊥ result }
+    ensures makes { Loads (λ (core : Core). Means source.now.replace classes.now (Ok core))
+        (IsMeaningless (source_of source.now) (map the_file classes.now)) ⊥ result }
     ensures resolved { IfOk result IsResolvedCore }
 {
     // The first fault of names is the first by its place.
@@ -97,12 +100,12 @@ pub fn load_jack<F: Shelf>(
     source: &Source<'_>,
     shelf: &mut F,
 ) -> Result<Core, LoadError>
-    ensures loads { Loads (FolderMeans (F.files shelf.old) (source_of source.now)) (FolderIsRefused (F.files shelf.old) (source_of source.now)) (F.unfailing shelf.old → LacksFolder (F.files shelf.old) (F.there shelf.old) source.now.folder.now) result }
+    ensures loads { Loads (FolderMeans (F.state shelf.old).files (source_of source.now))
+        (FolderIsRefused (F.state shelf.old).files (source_of source.now))
+        (MissesFolder (F.state shelf.old) source.now.folder.now) result }
     ensures resolved { IfOk result IsResolvedCore }
     ensures counts { CountsLoad (F.faults shelf.old) (F.faults shelf.new) result }
-    ensures kept { F.files shelf.new ≡ F.files shelf.old }
-    ensures stays { F.there shelf.new ≡ F.there shelf.old }
-    ensures keeps { F.unfailing shelf.old → F.unfailing shelf.new }
+    ensures keeps { Keeps (F.state shelf.old) (F.state shelf.new) }
 {
     let classes = load_folder(alloc, &JackLanguage, source.folder, ENDING, shelf)?;
     program_of(alloc, source, &classes)
@@ -127,10 +130,12 @@ pub fn load_built<F: Shelf>(
     source: &Source<'_>,
     shelf: &mut F,
 ) -> Result<BuiltProgram, LoadError>
-    ensures loads { Loads (λ (p : BuiltProgram). FolderBuilds (F.files shelf.old) (source_of source.now) p.core p.image) (BuildRefuses (F.files shelf.old) (source_of source.now)) (F.unfailing shelf.old → LacksFolder (F.files shelf.old) (F.there shelf.old) source.now.folder.now) result }
+    ensures loads { Loads (λ (p : BuiltProgram).
+        FolderBuilds (F.state shelf.old).files (source_of source.now) p.core p.image)
+        (BuildRefuses (F.state shelf.old).files (source_of source.now))
+        (MissesFolder (F.state shelf.old) source.now.folder.now) result }
     ensures counts { CountsLoad (F.faults shelf.old) (F.faults shelf.new) result }
-    ensures kept { F.files shelf.new ≡ F.files shelf.old }
-    ensures stays { F.there shelf.new ≡ F.there shelf.old }
+    ensures keeps { Keeps (F.state shelf.old) (F.state shelf.new) }
 {
     let core = load_jack(alloc, source, shelf)?;
     let image = image_of(alloc, source.folder, &core)?;

@@ -1,4 +1,5 @@
-//! The law of lines with which nothing is wrong, and rows of what it wants. (The other laws of lines stand in `command_laws`.)
+//! The law of lines with which nothing is wrong, and rows of what it wants. (The other laws of lines stand in
+//! `command_laws`.)
 ghost use Rattle.nand_cli.specs.Complete.{SoundLaw};
 ghost use Rattle.nand_cli.specs.CompleteRows.{CompleteRows};
 
@@ -13,7 +14,8 @@ pub fn sound_law()
     os_named::system_named_law();
 }
 
-/// Rows: VM files with as many static words as there is room for, and a program with as many words of budget, by computation.
+/// Rows: VM files with as many static words as there is room for, and a program with as many words of budget, by
+/// computation.
 #[tactic(auto, using(crate::proofs::CompleteRows::rows))]
 pub fn complete_rows()
     ensures { CompleteRows }

@@ -1,4 +1,5 @@
-//! The levels of `run`. At each there is a machine, which is put at its start with an allocator; and a report, which is put without one.
+//! The levels of `run`. At each there is a machine, which is put at its start with an allocator; and a report, which is
+//! put without one.
 ghost use Rattle.std.specs.Prelude.{◌≡◌, IfOk};
 ghost use Rattle.jack_compiler.specs.Resolved.{IsResolvedCore};
 ghost use Rattle.image_map.specs.Map.{IsMapped};
@@ -23,7 +24,8 @@ use std::alloc::{AllocError, Global};
 use tower::HackLevel;
 use vm_machine::Vm;
 
-/// The machine of a level at its start, and what is shown of it. At level jack the machine points into the program, so it is made where it is shown.
+/// The machine of a level at its start, and what is shown of it. At level jack the machine points into the program, so
+/// it is made where it is shown.
 #[derive(Drop)]
 pub enum Machine {
     Jack(Global, Show),

@@ -1,6 +1,6 @@
 //! The program of a source with its image and its places.
 ghost use Rattle.std.specs.Prelude.{◌≡◌, ◌≤◌, length};
-ghost use Rattle.outer_world.specs.Files.{LacksFolder};
+ghost use Rattle.outer_world.specs.State.{Keeps, MissesFolder};
 ghost use Rattle.command_line.specs.Line.{source_of};
 ghost use Rattle.source_files.specs.Loads.{CountsLoad, Loads};
 ghost use Rattle.tower.specs.Spelled.{AreSpelled};
@@ -51,7 +51,8 @@ impl PlacedProgram {
 fn placed_of(alloc: Global, source: &Source<'_>, own: &[Class]) -> Result<PlacedProgram, LoadError>
     requires few { length own.now ≤ 256 }
     requires spelled { AreSpelled own.now }
-    ensures { Loads (IsPlaced source.now.replace own.now) (AreRefused own.now (source_of source.now)) ⊥ result }
+    ensures { Loads (IsPlaced source.now.replace own.now)
+        (AreRefused own.now (source_of source.now)) ⊥ result }
 {
     let core = program_of(alloc, source, own)?;
     let image = image_of(alloc, source.folder, &core)?;
@@ -67,11 +68,11 @@ pub fn load_placed<F: Shelf>(
     source: &Source<'_>,
     shelf: &mut F,
 ) -> Result<PlacedProgram, LoadError>
-    ensures loads { Loads (FolderIsPlaced (F.files shelf.old) (source_of source.now)) (BuildRefuses (F.files shelf.old) (source_of source.now)) (F.unfailing shelf.old → LacksFolder (F.files shelf.old) (F.there shelf.old) source.now.folder.now) result }
+    ensures loads { Loads (FolderIsPlaced (F.state shelf.old).files (source_of source.now))
+        (BuildRefuses (F.state shelf.old).files (source_of source.now))
+        (MissesFolder (F.state shelf.old) source.now.folder.now) result }
     ensures counts { CountsLoad (F.faults shelf.old) (F.faults shelf.new) result }
-    ensures kept { F.files shelf.new ≡ F.files shelf.old }
-    ensures stays { F.there shelf.new ≡ F.there shelf.old }
-    ensures keeps { F.unfailing shelf.old → F.unfailing shelf.new }
+    ensures keeps { Keeps (F.state shelf.old) (F.state shelf.new) }
 {
     let own = load_folder(alloc, &JackLanguage, source.folder, ENDING, shelf)?;
     placed_of(alloc, source, &own)

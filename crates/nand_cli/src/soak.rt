@@ -178,7 +178,8 @@ fn is_at_vm(alloc: Global, gates: &GateComputer, core: &Core, m: u32) -> Result<
     Ok(false)
 }
 
-// Whether the other levels show what is seen of the computer made of gates, after as many cycles, after m steps, and after the m-th commit.
+// Whether the other levels show what is seen of the computer made of gates, after as many cycles, after m steps, and
+// after the m-th commit.
 fn are_alike(
     alloc: Global,
     gates: &GateComputer,

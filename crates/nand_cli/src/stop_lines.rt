@@ -11,7 +11,8 @@ use outer_world::{Pieces, Put, Sink};
 // The line of the moves or of the steps.
 fn put_count<S: Sink>(word: &[u8], n: u64, out: &mut Pieces<'_, S>) -> Put
     ensures same_sink { HaveSameSink out.old out.new }
-    ensures passes { Passes (S.written (sink_of out.old)) (pending out.old) (S.written (sink_of out.new)) (pending out.new) (said_line word.now (decimal n)) result }
+    ensures passes { Passes (S.written (sink_of out.old)) (pending out.old)
+        (S.written (sink_of out.new)) (pending out.new) (said_line word.now (decimal n)) result }
     ensures counts { CountsPut (S.faults (sink_of out.old)) (S.faults (sink_of out.new)) result }
 {
     let mut buffer = Buffer::new();
@@ -21,7 +22,8 @@ fn put_count<S: Sink>(word: &[u8], n: u64, out: &mut Pieces<'_, S>) -> Put
 // The lines of the moves and of the steps.
 fn put_made<S: Sink>(moves: u64, steps: u64, out: &mut Pieces<'_, S>) -> Put
     ensures same_sink { HaveSameSink out.old out.new }
-    ensures passes { Passes (S.written (sink_of out.old)) (pending out.old) (S.written (sink_of out.new)) (pending out.new) (made_text moves steps) result }
+    ensures passes { Passes (S.written (sink_of out.old)) (pending out.old)
+        (S.written (sink_of out.new)) (pending out.new) (made_text moves steps) result }
     ensures counts { CountsPut (S.faults (sink_of out.old)) (S.faults (sink_of out.new)) result }
 {
     match put_count(b"moves", moves, out) {
@@ -33,7 +35,9 @@ fn put_made<S: Sink>(moves: u64, steps: u64, out: &mut Pieces<'_, S>) -> Put
 // The line of a statement.
 fn put_break<S: Sink>(sub: &str, number: u32, out: &mut Pieces<'_, S>) -> Put
     ensures same_sink { HaveSameSink out.old out.new }
-    ensures passes { Passes (S.written (sink_of out.old)) (pending out.old) (S.written (sink_of out.new)) (pending out.new) (said_line (codes "break") (sub.now ++ 32 ∷ decimal number)) result }
+    ensures passes { Passes (S.written (sink_of out.old))
+        (pending out.old) (S.written (sink_of out.new)) (pending out.new)
+        (said_line (codes "break") (sub.now ++ 32 ∷ decimal number)) result }
     ensures counts { CountsPut (S.faults (sink_of out.old)) (S.faults (sink_of out.new)) result }
 {
     let mut buffer = Buffer::new();
@@ -44,7 +48,9 @@ fn put_break<S: Sink>(sub: &str, number: u32, out: &mut Pieces<'_, S>) -> Put
 // The three lines, where the computer stopped at a statement.
 fn put_stop<S: Sink>(sub: &str, number: u32, moves: u64, steps: u64, out: &mut Pieces<'_, S>) -> Put
     ensures same_sink { HaveSameSink out.old out.new }
-    ensures passes { Passes (S.written (sink_of out.old)) (pending out.old) (S.written (sink_of out.new)) (pending out.new) (stop_text sub.now number moves steps) result }
+    ensures passes { Passes (S.written (sink_of out.old))
+        (pending out.old) (S.written (sink_of out.new)) (pending out.new)
+        (stop_text sub.now number moves steps) result }
     ensures counts { CountsPut (S.faults (sink_of out.old)) (S.faults (sink_of out.new)) result }
 {
     match put_break(sub, number, out) {
@@ -56,7 +62,8 @@ fn put_stop<S: Sink>(sub: &str, number: u32, moves: u64, steps: u64, out: &mut P
 // The three lines, where it did not stop.
 fn put_none<S: Sink>(moves: u64, steps: u64, out: &mut Pieces<'_, S>) -> Put
     ensures same_sink { HaveSameSink out.old out.new }
-    ensures passes { Passes (S.written (sink_of out.old)) (pending out.old) (S.written (sink_of out.new)) (pending out.new) (none_text moves steps) result }
+    ensures passes { Passes (S.written (sink_of out.old)) (pending out.old)
+        (S.written (sink_of out.new)) (pending out.new) (none_text moves steps) result }
     ensures counts { CountsPut (S.faults (sink_of out.old)) (S.faults (sink_of out.new)) result }
 {
     match out.put(b"break none\n") {
@@ -75,7 +82,8 @@ fn put_stop_lines<S: Sink>(
 ) -> Put
     requires { pending out.old ≡ [] }
     ensures same_sink { HaveSameSink out.old out.new }
-    ensures put { Puts (S.written (sink_of out.old)) (S.written (sink_of out.new)) (stop_text sub.now number moves steps) result }
+    ensures put { Puts (S.written (sink_of out.old)) (S.written (sink_of out.new))
+        (stop_text sub.now number moves steps) result }
     ensures counts { CountsPut (S.faults (sink_of out.old)) (S.faults (sink_of out.new)) result }
 {
     match put_stop(sub, number, moves, steps, out) {
@@ -87,7 +95,8 @@ fn put_stop_lines<S: Sink>(
 fn put_none_lines<S: Sink>(moves: u64, steps: u64, out: &mut Pieces<'_, S>) -> Put
     requires { pending out.old ≡ [] }
     ensures same_sink { HaveSameSink out.old out.new }
-    ensures put { Puts (S.written (sink_of out.old)) (S.written (sink_of out.new)) (none_text moves steps) result }
+    ensures put { Puts (S.written (sink_of out.old)) (S.written (sink_of out.new))
+        (none_text moves steps) result }
     ensures counts { CountsPut (S.faults (sink_of out.old)) (S.faults (sink_of out.new)) result }
 {
     match put_none(moves, steps, out) {
@@ -98,7 +107,8 @@ fn put_none_lines<S: Sink>(moves: u64, steps: u64, out: &mut Pieces<'_, S>) -> P
 
 /// Puts three lines: the statement at which the computer stopped, its moves and its steps.
 pub fn print_stop<S: Sink>(sub: &str, number: u32, moves: u64, steps: u64, out: &mut S) -> Put
-    ensures put { Puts (S.written out.old) (S.written out.new) (stop_text sub.now number moves steps) result }
+    ensures put { Puts (S.written out.old) (S.written out.new)
+        (stop_text sub.now number moves steps) result }
     ensures counts { CountsPut (S.faults out.old) (S.faults out.new) result }
 {
     let mut pieces = Pieces::new(out);

@@ -1,9 +1,10 @@
 -- From two standings that are one, an act does one thing. It goes on, it differs or it has a fault, and not two of these.
-use Rattle.std.proofs.Common.{◌≡◌, ℕ, suc, Bool, true, List, [], ◌∷◌, ◌++◌, length, Option, Some, refl, sym, ap, ap₂, subst, ◌∙◌, inl, inr, arith}
+use Rattle.std.proofs.Common.{◌≡◌, ℕ, suc, true, List, [], ◌∷◌, ◌++◌, length, Option, Some, refl, sym, ap, ap₂, subst, ◌∙◌, inl, inr, arith}
 use Rattle.std.specs.Prelude.{IfSome, slice_get}
 use Rattle.outer_world.specs.Files.{Files}
 use Rattle.hack_asm.specs.HackText as image
 use Rattle.hack_asm.specs.Meaning as assembly
+use Rattle.hdl_tree.specs.declared.ends.Memories.{Memories}
 use Rattle.hdl_parser.specs.Spells as hdl
 use Rattle.elab_laws.specs.Same.{eval, none}
 use Rattle.script_columns.specs.Comparison.{agrees, lines_of}
@@ -27,8 +28,8 @@ use Rattle.script_laws.proofs.OneDevice.{SameDevice, eval_same, line_same, namel
 
 -- ---- standings that are one
 
-pub record SameStanding (blocks : Bool) (s t : Standing) : Type 0 where
-  pub device : SameDevice blocks s.device t.device
+pub record SameStanding (memories : Memories) (s t : Standing) : Type 0 where
+  pub device : SameDevice memories s.device t.device
   pub items : s.items ≡ t.items
   pub compared : s.compared ≡ t.compared
   pub lines : s.lines ≡ t.lines
@@ -38,20 +39,20 @@ pub record SameStanding (blocks : Bool) (s t : Standing) : Type 0 where
 abbrev AgreesBy : Option Compared → ℕ → List ℕ → Type 0
 AgreesBy o n line = IfSome o (λ c. (compared : List ℕ) × (slice_get c.lines n ≡ Some compared) × (agrees compared line ≡ true))
 
-module _ (hdl_law : hdl.ReadingLaw) (hack_law : image.ReadingLaw) (asm_law : assembly.ReadingLaw) (path : List ℕ) (told : Files) (blocks : Bool) where
+module _ (hdl_law : hdl.ReadingLaw) (hack_law : image.ReadingLaw) (asm_law : assembly.ReadingLaw) (path : List ℕ) (told : Files) (memories : Memories) where
   abbrev pub S : Setting
-  S = setting_of path (Some told) blocks
+  S = setting_of path (Some told) memories
 
   abbrev pub Same : Standing → Standing → Type 0
-  Same s t = SameStanding blocks s t
+  Same s t = SameStanding memories s t
 
   pub turned_back : (s t : Standing) → Same s t → Same t s
-  turned_back s t h = record { device = turned blocks s.device t.device h.device; items = sym h.items; compared = sym h.compared; lines = sym h.lines; out = sym h.out; err = sym h.err }
+  turned_back s t h = record { device = turned memories s.device t.device h.device; items = sym h.items; compared = sym h.compared; lines = sym h.lines; out = sym h.out; err = sym h.err }
 
-  with_devices : (s t : Standing) (d d' : Device) → Same s t → SameDevice blocks d d' → Same (record s { device = d }) (record t { device = d' })
+  with_devices : (s t : Standing) (d d' : Device) → Same s t → SameDevice memories d d' → Same (record s { device = d }) (record t { device = d' })
   with_devices s t d d' h k = record { device = k; items = h.items; compared = h.compared; lines = h.lines; out = h.out; err = h.err }
 
-  new_devices : (s t : Standing) (d d' : Device) → Same s t → SameDevice blocks d d' → Same (record s { device = d; items = [] }) (record t { device = d'; items = [] })
+  new_devices : (s t : Standing) (d d' : Device) → Same s t → SameDevice memories d d' → Same (record s { device = d; items = [] }) (record t { device = d'; items = [] })
   new_devices s t d d' h k = record { device = k; items = refl; compared = h.compared; lines = h.lines; out = h.out; err = h.err }
 
   moved : (s t x y : Standing) → s ≡ x → t ≡ y → Same x y → Same s t
@@ -66,16 +67,16 @@ module _ (hdl_law : hdl.ReadingLaw) (hack_law : image.ReadingLaw) (asm_law : ass
 
   -- ---- acts that put no line
 
-  chip_same : (file : List ℕ) (chip chip' : LoadedChip) → IsLoaded S file chip → IsLoaded S file chip' → SameDevice blocks (after_eval (Chip chip [])) (after_eval (Chip chip' []))
-  chip_same file chip chip' h k = (one_chip hdl_law path told blocks file chip chip' h k, eval none)
+  chip_same : (file : List ℕ) (chip chip' : LoadedChip) → IsLoaded S file chip → IsLoaded S file chip' → SameDevice memories (after_eval (Chip chip [])) (after_eval (Chip chip' []))
+  chip_same file chip chip' h k = (one_chip hdl_law path told memories file chip chip' h k, eval none)
 
   does_same : (act : Act) (s t s' t' : Standing) → Same s t → Does S s act s' → Does S t act t' → Same s' t'
-  does_same (acts.Step steps.Eval) s t s' t' h d e = moved s' t' (record s { device = after_eval s.device }) (record t { device = after_eval t.device }) d e (with_devices s t (after_eval s.device) (after_eval t.device) h (eval_same blocks s.device t.device h.device))
-  does_same (acts.Step steps.Tick) s t s' t' h d e = moved s' t' (record s { device = after_tick s.device }) (record t { device = after_tick t.device }) d e (with_devices s t (after_tick s.device) (after_tick t.device) h (tick_same blocks s.device t.device h.device))
-  does_same (acts.Step steps.Tock) s t s' t' h d e = moved s' t' (record s { device = after_tock s.device }) (record t { device = after_tock t.device }) d e (with_devices s t (after_tock s.device) (after_tock t.device) h (tock_same blocks s.device t.device h.device))
+  does_same (acts.Step steps.Eval) s t s' t' h d e = moved s' t' (record s { device = after_eval s.device }) (record t { device = after_eval t.device }) d e (with_devices s t (after_eval s.device) (after_eval t.device) h (eval_same memories s.device t.device h.device))
+  does_same (acts.Step steps.Tick) s t s' t' h d e = moved s' t' (record s { device = after_tick s.device }) (record t { device = after_tick t.device }) d e (with_devices s t (after_tick s.device) (after_tick t.device) h (tick_same memories s.device t.device h.device))
+  does_same (acts.Step steps.Tock) s t s' t' h d e = moved s' t' (record s { device = after_tock s.device }) (record t { device = after_tock t.device }) d e (with_devices s t (after_tock s.device) (after_tock t.device) h (tock_same memories s.device t.device h.device))
   does_same (acts.Step steps.TickTock) s t s' t' h d e =
       moved s' t' (record s { device = after_tock (after_tick s.device) }) (record t { device = after_tock (after_tick t.device) }) d e
-      (with_devices s t (after_tock (after_tick s.device)) (after_tock (after_tick t.device)) h (tock_same blocks (after_tick s.device) (after_tick t.device) (tick_same blocks s.device t.device h.device)))
+      (with_devices s t (after_tock (after_tick s.device)) (after_tock (after_tick t.device)) h (tock_same memories (after_tick s.device) (after_tick t.device) (tick_same memories s.device t.device h.device)))
   does_same (acts.Step steps.Output) s t s' t' h d e = absurd d
   does_same (acts.Load file) s t s' t' h (inl (chip, loaded, is)) (inl (chip', loaded', is')) =
       moved s' t' (record s { device = after_eval (Chip chip []); items = [] }) (record t { device = after_eval (Chip chip' []); items = [] }) is is'
@@ -84,7 +85,7 @@ module _ (hdl_law : hdl.ReadingLaw) (hack_law : image.ReadingLaw) (asm_law : ass
   does_same (acts.Load file) s t s' t' h (inr (program, rest)) (inl (chip, loaded, is)) = absurd (no_program file.text loaded.0 loaded.1 program)
   does_same (acts.Load file) s t s' t' h (inr (program, (words, has, is))) (inr (program', (words', has', is'))) =
       moved s' t' (record s { device = Machine (loaded_machine words); items = [] }) (record t { device = Machine (loaded_machine words'); items = [] }) is is'
-      (new_devices s t (Machine (loaded_machine words)) (Machine (loaded_machine words')) h (ap loaded_machine (one_image hack_law asm_law path told blocks file.text words words' has has')))
+      (new_devices s t (Machine (loaded_machine words)) (Machine (loaded_machine words')) h (ap loaded_machine (one_image hack_law asm_law path told memories file.text words words' has has')))
   does_same (acts.OutputFile file) s t s' t' h d e = moved s' t' s t d e h
   does_same (acts.CompareTo file) s t s' t' h (text, has, few, is) (text', has', few', is') =
       let same = same_text told (path_of S file.text) text text' has has' in
@@ -93,13 +94,13 @@ module _ (hdl_law : hdl.ReadingLaw) (hack_law : image.ReadingLaw) (asm_law : ass
   does_same (acts.OutputList items) s t s' t' h d e = absurd d
   does_same (acts.Set variable word) s t s' t' h (source, can, is) (source', can', is') =
       moved s' t' (record s { device = after_set s.device source word }) (record t { device = after_set t.device source' word }) is is'
-      (with_devices s t (after_set s.device source word) (after_set t.device source' word) h (set_same blocks s.device t.device h.device variable.text word source source' can can'))
+      (with_devices s t (after_set s.device source word) (after_set t.device source' word) h (set_same memories s.device t.device h.device variable.text word source source' can can'))
   does_same (acts.Echo text) s t s' t' h d e =
       moved s' t' (with_echo s text) (with_echo t text) d e
       (record { device = h.device; items = h.items; compared = h.compared; lines = h.lines; out = h.out; err = ap (λ (x : List ℕ). x ++ (text ++ 10 ∷ [])) h.err })
   does_same (acts.LoadRom word file) s t s' t' h (rom, (words, has, is)) (rom', (words', has', is')) =
-      let same = one_image hack_law asm_law path told blocks file.text words words' has has' in
-      let d = subst (λ (x : List ℕ). SameDevice blocks (with_image s.device rom words) (with_image t.device rom' x)) same (rom_same blocks s.device t.device h.device rom rom' words) in
+      let same = one_image hack_law asm_law path told memories file.text words words' has has' in
+      let d = subst (λ (x : List ℕ). SameDevice memories (with_image s.device rom words) (with_image t.device rom' x)) same (rom_same memories s.device t.device h.device rom rom' words) in
       moved s' t' (record s { device = with_image s.device rom words }) (record t { device = with_image t.device rom' words' }) is is'
       (with_devices s t (with_image s.device rom words) (with_image t.device rom' words') h d)
 
@@ -111,7 +112,7 @@ module _ (hdl_law : hdl.ReadingLaw) (hack_law : image.ReadingLaw) (asm_law : ass
 
   puts_same : (act : Act) (s t s' t' : Standing) (line line' : List ℕ) → Same s t → PutsLine S s act s' line → PutsLine S t act t' line' → SameLine s' t' line line'
   puts_same (acts.Step steps.Output) s t s' t' line line' h (d, l) (e, m) =
-      record { standing = moved s' t' s t d e h; line_is = line_same blocks s.device t.device h.device t.items line line' (subst (λ (x : List Item). IsLine s.device x line) h.items l) m }
+      record { standing = moved s' t' s t d e h; line_is = line_same memories s.device t.device h.device t.items line line' (subst (λ (x : List Item). IsLine s.device x line) h.items l) m }
   puts_same (acts.OutputList items) s t s' t' line line' h (meant, d, l) (meant', e, m) =
       record {
         standing = moved s' t' (record s { items = items }) (record t { items = items }) d e (record { device = h.device; items = refl; compared = h.compared; lines = h.lines; out = h.out; err = h.err });
@@ -172,7 +173,7 @@ module _ (hdl_law : hdl.ReadingLaw) (hack_law : image.ReadingLaw) (asm_law : ass
 
   faults_puts : (act : Act) (s t t' : Standing) (line out : List ℕ) → Same s t → Faults S s act line → PutsLine S t act t' out → ⊥
   faults_puts (acts.Step step) s t t' line out h f e = f
-  faults_puts (acts.OutputList items) s t t' line out h (item, nameless, is) (meant, d, l) = nameless_meant blocks s.device t.device h.device items item meant.0 nameless meant.1
+  faults_puts (acts.OutputList items) s t t' line out h (item, nameless, is) (meant, d, l) = nameless_meant memories s.device t.device h.device items item meant.0 nameless meant.1
   faults_puts (acts.Load file) s t t' line out h f e = e
   faults_puts (acts.OutputFile file) s t t' line out h f e = e
   faults_puts (acts.CompareTo file) s t t' line out h f e = e
@@ -183,20 +184,20 @@ module _ (hdl_law : hdl.ReadingLaw) (hack_law : image.ReadingLaw) (asm_law : ass
   faults_does : (act : Act) (s t t' : Standing) (line : List ℕ) → Same s t → Faults S s act line → Does S t act t' → ⊥
   faults_does (acts.Step step) s t t' line h f e = f
   faults_does (acts.OutputList items) s t t' line h f e = e
-  faults_does (acts.Load file) s t t' line h (inl why) (inl (chip, loaded, is)) = not_loaded hdl_law path told blocks file.text chip line loaded why
+  faults_does (acts.Load file) s t t' line h (inl why) (inl (chip, loaded, is)) = not_loaded hdl_law path told memories file.text chip line loaded why
   faults_does (acts.Load file) s t t' line h (inl why) (inr (program, rest)) = no_program file.text why.0 why.1 program
   faults_does (acts.Load file) s t t' line h (inr (program, why)) (inl (chip, loaded, is)) = no_program file.text loaded.0 loaded.1 program
-  faults_does (acts.Load file) s t t' line h (inr (program, why)) (inr (program', (words, has, is))) = not_both_images hack_law asm_law path told blocks file.text words line has why
+  faults_does (acts.Load file) s t t' line h (inr (program, why)) (inr (program', (words, has, is))) = not_both_images hack_law asm_law path told memories file.text words line has why
   faults_does (acts.OutputFile file) s t t' line h f e = f
   faults_does (acts.CompareTo file) s t t' line h (text, has, many, is) (text', has', few, is') =
       let same = ap (λ (x : List ℕ). length x) (same_text told (path_of S file.text) text text' has has') in
       absurd (omega (arith, same, many, few))
   faults_does (acts.Set variable word) s t t' line h (lacks, is) (source, can, is') =
-      let x = set_there blocks t.device s.device (turned blocks s.device t.device h.device) variable.text source can in
+      let x = set_there memories t.device s.device (turned memories s.device t.device h.device) variable.text source can in
       lacks x.0 x.1
   faults_does (acts.Echo text) s t t' line h f e = f
-  faults_does (acts.LoadRom word file) s t t' line h (inl (lacks, is)) (rom, rest) = lacks (rom_there blocks t.device s.device (turned blocks s.device t.device h.device) rom)
-  faults_does (acts.LoadRom word file) s t t' line h (inr (rom, why)) (rom', (words, has, is)) = not_both_images hack_law asm_law path told blocks file.text words line has why
+  faults_does (acts.LoadRom word file) s t t' line h (inl (lacks, is)) (rom, rest) = lacks (rom_there memories t.device s.device (turned memories s.device t.device h.device) rom)
+  faults_does (acts.LoadRom word file) s t t' line h (inr (rom, why)) (rom', (words, has, is)) = not_both_images hack_law asm_law path told memories file.text words line has why
 
   pub faults_goes : (act : Act) (s t t' : Standing) (line : List ℕ) → Same s t → Faults S s act line → Goes S t act t' → ⊥
   faults_goes act s t t' line h f (inl e) = faults_does act s t t' line h f e
@@ -209,16 +210,16 @@ module _ (hdl_law : hdl.ReadingLaw) (hack_law : image.ReadingLaw) (asm_law : ass
   faults_same (acts.Step step) s t line line' h f g = absurd f
   faults_same (acts.OutputFile file) s t line line' h f g = absurd f
   faults_same (acts.Echo text) s t line line' h f g = absurd f
-  faults_same (acts.Load file) s t line line' h (inl why) (inl why') = one_reason hdl_law path told blocks file.text line line' why why'
+  faults_same (acts.Load file) s t line line' h (inl why) (inl why') = one_reason hdl_law path told memories file.text line line' why why'
   faults_same (acts.Load file) s t line line' h (inl why) (inr (program, rest)) = absurd (no_program file.text why.0 why.1 program)
   faults_same (acts.Load file) s t line line' h (inr (program, rest)) (inl why) = absurd (no_program file.text why.0 why.1 program)
-  faults_same (acts.Load file) s t line line' h (inr (program, why)) (inr (program', why')) = inl (one_no_image hack_law asm_law path told blocks file.text line line' why why')
+  faults_same (acts.Load file) s t line line' h (inr (program, why)) (inr (program', why')) = inl (one_no_image hack_law asm_law path told memories file.text line line' why why')
   faults_same (acts.CompareTo file) s t line line' h (text, has, many, is) (text', has', many', is') = inl (is ∙ sym is')
   faults_same (acts.OutputList items) s t line line' h (item, nameless, is) (item', nameless', is') =
-      let one = nameless_once blocks s.device t.device h.device items item item' nameless nameless' in
+      let one = nameless_once memories s.device t.device h.device items item item' nameless nameless' in
       inl (is ∙ ap (λ (x : Item). name_line S x.variable) one ∙ sym is')
   faults_same (acts.Set variable word) s t line line' h (lacks, is) (lacks', is') = inl (is ∙ sym is')
   faults_same (acts.LoadRom word file) s t line line' h (inl (lacks, is)) (inl (lacks', is')) = inl (is ∙ sym is')
-  faults_same (acts.LoadRom word file) s t line line' h (inl (lacks, is)) (inr (rom, why)) = absurd (lacks (rom_there blocks t.device s.device (turned blocks s.device t.device h.device) rom))
-  faults_same (acts.LoadRom word file) s t line line' h (inr (rom, why)) (inl (lacks, is)) = absurd (lacks (rom_there blocks s.device t.device h.device rom))
-  faults_same (acts.LoadRom word file) s t line line' h (inr (rom, why)) (inr (rom', why')) = inl (one_no_image hack_law asm_law path told blocks file.text line line' why why')
+  faults_same (acts.LoadRom word file) s t line line' h (inl (lacks, is)) (inr (rom, why)) = absurd (lacks (rom_there memories t.device s.device (turned memories s.device t.device h.device) rom))
+  faults_same (acts.LoadRom word file) s t line line' h (inr (rom, why)) (inl (lacks, is)) = absurd (lacks (rom_there memories s.device t.device h.device rom))
+  faults_same (acts.LoadRom word file) s t line line' h (inr (rom, why)) (inr (rom', why')) = inl (one_no_image hack_law asm_law path told memories file.text line line' why why')

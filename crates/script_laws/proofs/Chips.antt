@@ -20,6 +20,7 @@ use Rattle.hdl_tree.specs.declared.tree.Chip.{Chip}
 use Rattle.hdl_tree.specs.declared.tree.Body.{Body}
 use Rattle.hdl_tree.specs.declared.tree.Body.TheVariants as body
 use Rattle.hdl_tree.specs.declared.library.Entry.{Entry}
+use Rattle.hdl_tree.specs.declared.ends.Memories.{Memories}
 use Rattle.hdl_tree.specs.Chips.{Chips, find_entry}
 use Rattle.hdl_tree.specs.Writable.{chip_can}
 use Rattle.hdl_check.specs.Messages.{named_message}
@@ -110,18 +111,18 @@ all_known setting name entries (from, h, g) = gathered_known from (name ∷ []) 
 
 -- ---- two elaborations of one chip
 
-pub record OneChip (blocks : Bool) (chip chip' : LoadedChip) : Type 0 where
+pub record OneChip (memories : Memories) (chip chip' : LoadedChip) : Type 0 where
   pub entries : List Entry
   pub name : List ℕ
   pub top : Entry
   pub found : find_entry entries name ≡ Some top
-  pub no_fault : HasNoFault (chips_in entries blocks) top
-  pub ends : EndsHavePins (chips_in entries blocks)
+  pub no_fault : HasNoFault (chips_in entries memories) top
+  pub ends : EndsHavePins (chips_in entries memories)
   pub can : chip_can top.chip ≡ true
   pub e : Elab
   pub e' : Elab
-  pub is : IsElaborated (chips_in entries blocks) top e
-  pub is' : IsElaborated (chips_in entries blocks) top e'
+  pub is : IsElaborated (chips_in entries memories) top e
+  pub is' : IsElaborated (chips_in entries memories) top e'
   pub net : chip.net ≡ e.net
   pub net' : chip'.net ≡ e'.net
   pub ordered : AreOrdered e.net.nodes e.net.blocks
@@ -144,11 +145,11 @@ hdl_ends name =
 pub no_program : (file name : List ℕ) → file ≡ file_of name → IsProgram file → ⊥
 no_program file name is program = let no : true ≡ false = sym (ap (ends_in (codes ".hdl")) is ∙ hdl_ends name) ∙ program in absurd cc
 
-module _ (law : ReadingLaw) (path : List ℕ) (told : Files) (blocks : Bool) where
+module _ (law : ReadingLaw) (path : List ℕ) (told : Files) (memories : Memories) where
   abbrev S : Setting
-  S = setting_of path (Some told) blocks
+  S = setting_of path (Some told) memories
 
-  built_one : (name : List ℕ) (entries : List Entry) (chip chip' : LoadedChip) → AreKnown entries → IsBuilt S entries name chip → IsBuilt S entries name chip' → OneChip blocks chip chip'
+  built_one : (name : List ℕ) (entries : List Entry) (chip chip' : LoadedChip) → AreKnown entries → IsBuilt S entries name chip → IsBuilt S entries name chip' → OneChip memories chip chip'
   built_one name entries chip chip' known b b' =
       let same = top_once entries name b'.top b.top b'.found b.found in
       record {
@@ -157,12 +158,12 @@ module _ (law : ReadingLaw) (path : List ℕ) (told : Files) (blocks : Bool) whe
         top = b.top;
         found = b.found;
         no_fault = b.fine.no_fault;
-        ends = libraries.ends entries blocks known.0;
+        ends = libraries.ends entries memories known.0;
         can = known.1 name b.top b.found;
         e = b.e;
         e' = b'.e;
         is = b.elaborated;
-        is' = subst (λ (t : Entry). IsElaborated (chips_in entries blocks) t b'.e) same b'.elaborated;
+        is' = subst (λ (t : Entry). IsElaborated (chips_in entries memories) t b'.e) same b'.elaborated;
         net = b.net;
         net' = b'.net;
         ordered = subst (λ (n : Net). AreOrdered n.nodes n.blocks) b.net b.ordered;
@@ -171,11 +172,11 @@ module _ (law : ReadingLaw) (path : List ℕ) (told : Files) (blocks : Bool) whe
         directory' = subst (λ (t : Entry). IsDirectory entries t b'.e chip'.directory) same b'.directory;
       }
 
-  pub one_chip : (file : List ℕ) (chip chip' : LoadedChip) → IsLoaded S file chip → IsLoaded S file chip' → OneChip blocks chip chip'
+  pub one_chip : (file : List ℕ) (chip chip' : LoadedChip) → IsLoaded S file chip → IsLoaded S file chip' → OneChip memories chip chip'
   one_chip file chip chip' (name, is, (entries, g, b)) (name', is', (entries', g', b')) =
       let n = name_once file name' name is' is in
       let h : HasGathered S name entries' = subst (λ (x : List ℕ). HasGathered S x entries') n g' in
-      let es = one_library law path told blocks name entries' entries h g in
+      let es = one_library law path told memories name entries' entries h g in
       let c : IsBuilt S entries name chip' = subst (λ (x : List Entry). IsBuilt S x name chip') es (subst (λ (x : List ℕ). IsBuilt S entries' x chip') n b') in
       built_one name entries chip chip' (all_known S name entries g) b c
 
@@ -200,17 +201,17 @@ module _ (law : ReadingLaw) (path : List ℕ) (told : Files) (blocks : Bool) whe
       n = name_once file name' name is' is
 
       by : HasFailed S name' line ⊎ ((others : List Entry) × HasGathered S name' others × (IsUnknown S others name' line ⊎ IsFaulty S others name' line)) → ⊥
-      by (inl failed) = not_both_ways law path told blocks name entries line g (subst (λ (x : List ℕ). HasFailed S x line) n failed)
+      by (inl failed) = not_both_ways law path told memories name entries line g (subst (λ (x : List ℕ). HasFailed S x line) n failed)
       by (inr (others, g', inl unknown)) =
-          let es = one_library law path told blocks name others entries (subst (λ (x : List ℕ). HasGathered S x others) n g') g in
+          let es = one_library law path told memories name others entries (subst (λ (x : List ℕ). HasGathered S x others) n g') g in
           found_unknown name entries b.top line b.found (subst (λ (x : List Entry). IsUnknown S x name line) es (subst (λ (x : List ℕ). IsUnknown S others x line) n unknown))
       by (inr (others, g', inr faulty)) =
-          let es = one_library law path told blocks name others entries (subst (λ (x : List ℕ). HasGathered S x others) n g') g in
+          let es = one_library law path told memories name others entries (subst (λ (x : List ℕ). HasGathered S x others) n g') g in
           let f : IsFaulty S entries name line = subst (λ (x : List Entry). IsFaulty S x name line) es (subst (λ (x : List ℕ). IsFaulty S others x line) n faulty) in
           let same = top_once entries name f.top b.top f.found b.found in
-          fine_faulty (chips_in entries blocks) b.top entries name line f.fault b.fine (subst (λ (t : Entry). IsFaultOf (chips_in entries blocks) t f.fault) same f.is_fault) f.is
+          fine_faulty (chips_in entries memories) b.top entries name line f.fault b.fine (subst (λ (t : Entry). IsFaultOf (chips_in entries memories) t f.fault) same f.is_fault) f.is
 
-  fault_lines : (chips : Chips) (top : Entry) (entries : List Entry) (name line line' : List ℕ) → chips ≡ chips_in entries blocks → HasGathered S name entries → find_entry entries name ≡ Some top → (f f' : ElaborationFault) → IsFaultOf chips top f → IsFaultOf chips top f' → IsFaultLine S entries name f line → IsFaultLine S entries name f' line' → SameButNets S line line'
+  fault_lines : (chips : Chips) (top : Entry) (entries : List Entry) (name line line' : List ℕ) → chips ≡ chips_in entries memories → HasGathered S name entries → find_entry entries name ≡ Some top → (f f' : ElaborationFault) → IsFaultOf chips top f → IsFaultOf chips top f' → IsFaultLine S entries name f line → IsFaultLine S entries name f' line' → SameButNets S line line'
   fault_lines chips top entries name line line' q g found faults.Memory f' h k t u = absurd t
   fault_lines chips top entries name line line' q g found f faults.Memory h k t u = absurd u
   fault_lines chips top entries name line line' q g found (faults.Named f) (faults.Named f') h k t u =
@@ -231,7 +232,7 @@ module _ (law : ReadingLaw) (path : List ℕ) (told : Files) (blocks : Bool) whe
   faulty_lines : (entries : List Entry) (name line line' : List ℕ) → HasGathered S name entries → IsFaulty S entries name line → IsFaulty S entries name line' → SameButNets S line line'
   faulty_lines entries name line line' gathered f g =
       let same = top_once entries name g.top f.top g.found f.found in
-      fault_lines (chips_in entries blocks) f.top entries name line line' refl gathered f.found f.fault g.fault f.is_fault (subst (λ (t : Entry). IsFaultOf (chips_in entries blocks) t g.fault) same g.is_fault) f.is g.is
+      fault_lines (chips_in entries memories) f.top entries name line line' refl gathered f.found f.fault g.fault f.is_fault (subst (λ (t : Entry). IsFaultOf (chips_in entries memories) t g.fault) same g.is_fault) f.is g.is
 
   abbrev Why : List Entry → List ℕ → List ℕ → Type 0
   Why entries name line = IsUnknown S entries name line ⊎ IsFaulty S entries name line
@@ -246,11 +247,11 @@ module _ (law : ReadingLaw) (path : List ℕ) (told : Files) (blocks : Bool) whe
   Rest name line = HasFailed S name line ⊎ ((entries : List Entry) × HasGathered S name entries × Why entries name line)
 
   rest_lines : (name line line' : List ℕ) → Rest name line → Rest name line' → SameButNets S line line'
-  rest_lines name line line' (inl f) (inl g) = inl (one_failure law path told blocks name line line' f g)
-  rest_lines name line line' (inl f) (inr (entries, g, why)) = absurd (not_both_ways law path told blocks name entries line g f)
-  rest_lines name line line' (inr (entries, g, why)) (inl f) = absurd (not_both_ways law path told blocks name entries line' g f)
+  rest_lines name line line' (inl f) (inl g) = inl (one_failure law path told memories name line line' f g)
+  rest_lines name line line' (inl f) (inr (entries, g, why)) = absurd (not_both_ways law path told memories name entries line g f)
+  rest_lines name line line' (inr (entries, g, why)) (inl f) = absurd (not_both_ways law path told memories name entries line' g f)
   rest_lines name line line' (inr (entries, g, why)) (inr (entries', g', why')) =
-      let es = one_library law path told blocks name entries' entries g' g in
+      let es = one_library law path told memories name entries' entries g' g in
       why_lines entries name line line' g why (subst (λ (x : List Entry). Why x name line') es why')
 
   pub one_reason : (file line line' : List ℕ) → IsNotLoaded S file line → IsNotLoaded S file line' → SameButNets S line line'
@@ -259,9 +260,9 @@ module _ (law : ReadingLaw) (path : List ℕ) (told : Files) (blocks : Bool) whe
 
 -- ---- images
 
-module _ (hack : image.ReadingLaw) (asm : assembly.ReadingLaw) (path : List ℕ) (told : Files) (blocks : Bool) where
+module _ (hack : image.ReadingLaw) (asm : assembly.ReadingLaw) (path : List ℕ) (told : Files) (memories : Memories) where
   abbrev T : Setting
-  T = setting_of path (Some told) blocks
+  T = setting_of path (Some told) memories
 
   unlike : (file : List ℕ) → ends_in (codes ".hack") file ≡ true → ends_in (codes ".hack") file ≡ false → ⊥
   unlike file h k = let no : true ≡ false = sym h ∙ k in absurd cc

@@ -10,6 +10,7 @@ use Rattle.hdl_tree.specs.declared.tree.Pin.{Pin}
 use Rattle.hdl_tree.specs.declared.library.Entry.{Entry}
 use Rattle.hdl_tree.specs.declared.ends.End.{End}
 use Rattle.hdl_tree.specs.declared.ends.End.TheVariants as ends
+use Rattle.hdl_tree.specs.declared.ends.Memories.{Memories}
 use Rattle.hdl_tree.specs.Memory.{number}
 use Rattle.hdl_tree.specs.Behaviour.{Wires}
 use Rattle.hdl_tree.specs.Chips.{Chips, end_of, find_entry, pin_width}
@@ -278,9 +279,9 @@ block_some (Some (ends.Block bits)) x y b h = refl
 
 -- ---- two elaborations of one chip
 
-module _ (blocks : Bool) (c c' : LoadedChip) (o : OneChip blocks c c') where
+module _ (memories : Memories) (c c' : LoadedChip) (o : OneChip memories c c') where
   abbrev C : Chips
-  C = chips_in o.entries blocks
+  C = chips_in o.entries memories
 
   abbrev ins : List Pin
   ins = o.top.chip.inputs
@@ -438,8 +439,8 @@ module _ (blocks : Bool) (c c' : LoadedChip) (o : OneChip blocks c c') where
   pub block_moved : (name : List ℕ) (b : ℕ) → HasBlock c.directory name b → BlockMoved name b
   block_moved name b (part, named, block) =
       let f = parts_of name part named in
-      let here : block_at (end_of C.blocks f.item.chip) (o.is.block f.item.path) ≡ Some b = ap (λ (x : PartNodes). x.block) f.is ∙ block in
-      let here' = block_some (end_of C.blocks f.item.chip) (o.is.block f.item.path) (o.is'.block f.item.path) b here in
+      let here : block_at (end_of C.memories f.item.chip) (o.is.block f.item.path) ≡ Some b = ap (λ (x : PartNodes). x.block) f.is ∙ block in
+      let here' = block_some (end_of C.memories f.item.chip) (o.is.block f.item.path) (o.is'.block f.item.path) b here in
       record {
         b' = o.is'.block f.item.path;
         other = (part_nodes o.entries (P' f.item), named' name part f, here');

@@ -1,5 +1,5 @@
 -- A script over known files has one end.
-use Rattle.std.proofs.Common.{◌≡◌, ℕ, Bool, List, [], ◌∷◌, ◌++◌, Option, Some, refl, sym, ap, ap₂, subst, ◌∙◌, inl, inr}
+use Rattle.std.proofs.Common.{◌≡◌, ℕ, List, [], ◌∷◌, ◌++◌, Option, Some, refl, sym, ap, ap₂, subst, ◌∙◌, inl, inr}
 use Rattle.std.specs.Prelude.{codes, is_some}
 use Rattle.outer_world.specs.Files.{Files, HasFile}
 use Rattle.outer_world.specs.Refusals.{message, message_line}
@@ -7,6 +7,7 @@ use Rattle.grammar.specs.declared.Fault.{Fault}
 use Rattle.grammar.specs.Faults.{diagnostic_of}
 use Rattle.hack_asm.specs.HackText as image
 use Rattle.hack_asm.specs.Meaning as assembly
+use Rattle.hdl_tree.specs.declared.ends.Memories.{Memories}
 use Rattle.hdl_parser.specs.Spells as hdl
 use Rattle.script_parser.specs.declared.tree.Act.{Act}
 use Rattle.script_parser.specs.Trees.{Refuses, Spells}
@@ -20,12 +21,12 @@ use Rattle.script_laws.specs.Exact.{ScriptIsExact, SameButNets, ScriptExactLaw}
 use Rattle.script_laws.proofs.Gathered.{same_text}
 use Rattle.script_laws.proofs.Acts.{SameStanding, differs_goes, differs_same, faults_differs, faults_goes, faults_same, goes_same, turned_back}
 
-module _ (law : script.ReadingLaw) (hdl_law : hdl.ReadingLaw) (hack_law : image.ReadingLaw) (asm_law : assembly.ReadingLaw) (path : List ℕ) (told : Files) (blocks : Bool) where
+module _ (law : script.ReadingLaw) (hdl_law : hdl.ReadingLaw) (hack_law : image.ReadingLaw) (asm_law : assembly.ReadingLaw) (path : List ℕ) (told : Files) (memories : Memories) where
   abbrev S : Setting
-  S = setting_of path (Some told) blocks
+  S = setting_of path (Some told) memories
 
   abbrev Same : Standing → Standing → Type 0
-  Same s t = SameStanding blocks s t
+  Same s t = SameStanding memories s t
 
   -- ---- the acts
 
@@ -51,10 +52,10 @@ module _ (law : script.ReadingLaw) (hdl_law : hdl.ReadingLaw) (hack_law : image.
   AtFault s act = (line : List ℕ) × Faults S s act line
 
   difference_stops : Stops AtDifference
-  difference_stops act s t t' h (s', d) g = differs_goes hdl_law hack_law asm_law path told blocks act s t s' t' h d g
+  difference_stops act s t t' h (s', d) g = differs_goes hdl_law hack_law asm_law path told memories act s t s' t' h d g
 
   fault_stops : Stops AtFault
-  fault_stops act s t t' h (line, f) g = faults_goes hdl_law hack_law asm_law path told blocks act s t t' line h f g
+  fault_stops act s t t' h (line, f) g = faults_goes hdl_law hack_law asm_law path told memories act s t t' line h f g
 
   same_start : (s t : Standing) → s ≡ t → Same t t → Same s t
   same_start s t e h = subst (λ (x : Standing). Same x t) (sym e) h
@@ -74,11 +75,11 @@ module _ (law : script.ReadingLaw) (hdl_law : hdl.ReadingLaw) (hack_law : image.
       absurd (stops act s u' r (equal s u' u u' g refl h) q (subst (λ (a : Act). Goes S u' a r) (sym head) goes))
   meet Q Q' stops stops' (a ∷ done) [] rest rest' act act' u u' s s' h same (r, goes, more) g' q q' =
       let head : a ≡ act' = cc in
-      absurd (stops' act' s' u r (equal s' u u' u g' refl (turned_back hdl_law hack_law asm_law path told blocks u u' h)) q' (subst (λ (x : Act). Goes S u x r) head goes))
+      absurd (stops' act' s' u r (equal s' u u' u g' refl (turned_back hdl_law hack_law asm_law path told memories u u' h)) q' (subst (λ (x : Act). Goes S u x r) head goes))
   meet Q Q' stops stops' (a ∷ done) (b ∷ done') rest rest' act act' u u' s s' h same (r, goes, more) (r', goes', more') q q' =
       let head : a ≡ b = cc in
       let tail : done ++ act ∷ rest ≡ done' ++ act' ∷ rest' = cc in
-      let next = goes_same hdl_law hack_law asm_law path told blocks a u u' r r' h goes (subst (λ (x : Act). Goes S u' x r') (sym head) goes') in
+      let next = goes_same hdl_law hack_law asm_law path told memories a u u' r r' h goes (subst (λ (x : Act). Goes S u' x r') (sym head) goes') in
       meet Q Q' stops stops' done done' rest rest' act act' r r' s s' next tail more more' q q'
 
   first_same : Same at_first at_first
@@ -92,7 +93,7 @@ module _ (law : script.ReadingLaw) (hdl_law : hdl.ReadingLaw) (hack_law : image.
 
   through_same : (acts : List Act) (u u' s s' : Standing) → Same u u' → GoThrough S u acts s → GoThrough S u' acts s' → Same s s'
   through_same [] u u' s s' h g g' = equal s s' u u' g g' h
-  through_same (a ∷ acts) u u' s s' h (r, goes, more) (r', goes', more') = through_same acts r r' s s' (goes_same hdl_law hack_law asm_law path told blocks a u u' r r' h goes goes') more more'
+  through_same (a ∷ acts) u u' s s' h (r, goes, more) (r', goes', more') = through_same acts r r' s s' (goes_same hdl_law hack_law asm_law path told memories a u u' r r' h goes goes') more more'
 
   no_stop : (Q : Standing → Act → Type 0) → Stops Q → (done rest acts : List Act) (act : Act) (u u' s t : Standing) → Same u u' → done ++ act ∷ rest ≡ acts → GoThrough S u done s → GoThrough S u' acts t → Q s act → ⊥
   no_stop Q stops [] rest [] act u u' s t h same g g' q = absurd cc
@@ -103,7 +104,7 @@ module _ (law : script.ReadingLaw) (hdl_law : hdl.ReadingLaw) (hack_law : image.
   no_stop Q stops (a ∷ done) rest (b ∷ acts) act u u' s t h same (r, goes, more) (r', goes', more') q =
       let head : a ≡ b = cc in
       let tail : done ++ act ∷ rest ≡ acts = cc in
-      let next = goes_same hdl_law hack_law asm_law path told blocks a u u' r r' h goes (subst (λ (x : Act). Goes S u' x r') (sym head) goes') in
+      let next = goes_same hdl_law hack_law asm_law path told memories a u u' r r' h goes (subst (λ (x : Act). Goes S u' x r') (sym head) goes') in
       no_stop Q stops done rest acts act r r' s t next tail more more' q
 
   never_at : (Q : Standing → Act → Type 0) → Stops Q → (out err : List ℕ) (s : Standing) (act : Act) → IsDone S out err → IsAt S s act → Q s act → ⊥
@@ -128,7 +129,7 @@ module _ (law : script.ReadingLaw) (hdl_law : hdl.ReadingLaw) (hack_law : image.
       let st = x.standing in (
         n.on_out ∙ st.out ∙ sym m.on_out,
         n.on_err ∙ st.err ∙ sym m.on_err,
-        faults_same hdl_law hack_law asm_law path told blocks n.act n.s m.s line line' st n.tells (subst (λ (a : Act). Faults S m.s a line') (sym x.act_is) m.tells),
+        faults_same hdl_law hack_law asm_law path told memories n.act n.s m.s line line' st n.tells (subst (λ (a : Act). Faults S m.s a line') (sym x.act_is) m.tells),
       )
 
   -- ---- differences
@@ -136,7 +137,7 @@ module _ (law : script.ReadingLaw) (hdl_law : hdl.ReadingLaw) (hack_law : image.
   differs_once : (out before line out' before' line' : List ℕ) → IsDifferent S out before line → IsDifferent S out' before' line' → (out ≡ out') × (before ≡ before') × (line ≡ line')
   differs_once out before line out' before' line' n m =
       let x = meet_at AtDifference AtDifference difference_stops difference_stops n.s m.s n.act m.act n.is_at m.is_at (n.t, n.differs) (m.t, m.differs) in
-      let same = differs_same hdl_law hack_law asm_law path told blocks n.act m.act x.act_is n.s m.s n.t m.t x.standing n.differs m.differs in
+      let same = differs_same hdl_law hack_law asm_law path told memories n.act m.act x.act_is n.s m.s n.t m.t x.standing n.differs m.differs in
       let st = x.standing in
       let after = same.standing in (
         n.on_out ∙ after.out ∙ sym m.on_out,
@@ -161,9 +162,9 @@ module _ (law : script.ReadingLaw) (hdl_law : hdl.ReadingLaw) (hack_law : image.
       | inr n ↦
           let x = meet_at AtFault AtDifference fault_stops difference_stops n.s d.s n.act d.act n.is_at d.is_at (line, n.tells) (d.t, d.differs) in
           let e : Differs S d.s n.act d.t = subst (λ (a : Act). Differs S d.s a d.t) (sym x.act_is) d.differs in
-          faults_differs hdl_law hack_law asm_law path told blocks n.act n.s d.s d.t line x.standing n.tells e
+          faults_differs hdl_law hack_law asm_law path told memories n.act n.s d.s d.t line x.standing n.tells e
     ];
   }
 
 pub script_exact : script.ReadingLaw → hdl.ReadingLaw → image.ReadingLaw → assembly.ReadingLaw → ScriptExactLaw
-script_exact law hdl_law hack_law asm_law path files blocks = exactly law hdl_law hack_law asm_law path files blocks
+script_exact law hdl_law hack_law asm_law path files memories = exactly law hdl_law hack_law asm_law path files memories

@@ -6,6 +6,7 @@ use Rattle.netlist.specs.declared.node.Block.{Block}
 use Rattle.gate_sim.specs.Calls.{Call}
 use Rattle.gate_sim.specs.Calls.Call.{Load}
 use Rattle.hdl_tree.specs.declared.library.Entry.{Entry}
+use Rattle.hdl_tree.specs.declared.ends.Memories.{Memories}
 use Rattle.hdl_elab.specs.declared.put.Elab.{Elab}
 use Rattle.elab_laws.specs.Same.{SameBlock, SameCalls, SamePin, none, load, set, eval, tick, tock}
 use Rattle.script_columns.specs.Columns.{column_text, value_text}
@@ -22,7 +23,7 @@ use Rattle.script_device.specs.Devices.Device.{Empty, Chip, Machine}
 use Rattle.script_device.specs.Devices.Source.{TheTime, OfChip, OfMachine}
 use Rattle.script_device.proofs.Found.{number_has, one_block as block_once}
 use Rattle.script_device.proofs.MachineNames.{word_of}
-use Rattle.tst_runner.specs.Lines.{AreMeant, IsLine, IsNameless, columns, format_of, layout_of, values_of}
+use Rattle.tst_runner.specs.Lines.{AreMeant, IsLine, IsNameless, columns, values_of}
 use Rattle.script_laws.proofs.Chips.{OneChip}
 use Rattle.script_laws.proofs.Devices.{SameSet, SameSource, block_moved, means_moved, means_once, seen_same, set_moved, set_once, size_moved, source_set, times_same}
 
@@ -42,8 +43,8 @@ calls_back top e e' calls calls' (eval {calls = cs} {calls' = cs'} rest) = eval 
 calls_back top e e' calls calls' (tick {calls = cs} {calls' = cs'} rest) = tick (calls_back top e e' cs cs' rest)
 calls_back top e e' calls calls' (tock {calls = cs} {calls' = cs'} rest) = tock (calls_back top e e' cs cs' rest)
 
-abbrev back : (blocks : Bool) (c c' : LoadedChip) → OneChip blocks c c' → OneChip blocks c' c
-back blocks c c' o = record {
+abbrev back : (memories : Memories) (c c' : LoadedChip) → OneChip memories c c' → OneChip memories c' c
+back memories c c' o = record {
   entries = o.entries;
   name = o.name;
   top = o.top;
@@ -130,13 +131,13 @@ no_time text Key t h = apart text 116 82 (time_byte text t) (byte_of text Key h)
 
 -- ---- devices
 
-module _ (blocks : Bool) where
+module _ (memories : Memories) where
   abbrev pub SameDevice : Device → Device → Type 0
   SameDevice Empty Empty = Unit {0}
   SameDevice Empty (Chip c calls) = ⊥
   SameDevice Empty (Machine m) = ⊥
   SameDevice (Chip c calls) Empty = ⊥
-  SameDevice (Chip c calls) (Chip c' calls') = (o : OneChip blocks c c') × SameCalls o.top o.e o.e' calls calls'
+  SameDevice (Chip c calls) (Chip c' calls') = (o : OneChip memories c c') × SameCalls o.top o.e o.e' calls calls'
   SameDevice (Chip c calls) (Machine m) = ⊥
   SameDevice (Machine m) Empty = ⊥
   SameDevice (Machine m) (Chip c calls) = ⊥
@@ -147,7 +148,7 @@ module _ (blocks : Bool) where
   turned Empty (Chip c calls) h = absurd h
   turned Empty (Machine m) h = absurd h
   turned (Chip c calls) Empty h = absurd h
-  turned (Chip c calls) (Chip c' calls') h = (back blocks c c' h.0, calls_back h.0.top h.0.e h.0.e' calls calls' h.1)
+  turned (Chip c calls) (Chip c' calls') h = (back memories c c' h.0, calls_back h.0.top h.0.e h.0.e' calls calls' h.1)
   turned (Chip c calls) (Machine m) h = absurd h
   turned (Machine m) Empty h = absurd h
   turned (Machine m) (Chip c calls) h = absurd h
@@ -196,7 +197,7 @@ module _ (blocks : Bool) where
   means_there Empty d' h text (OfMachine r) m = absurd m
   means_there (Chip c calls) Empty h text (OfChip s) m = absurd h
   means_there (Chip c calls) (Machine x) h text (OfChip s) m = absurd h
-  means_there (Chip c calls) (Chip c' calls') h text (OfChip s) m = let r = means_moved blocks c c' h.0 text s m.1 in (OfChip r.s', (m.0, r.other))
+  means_there (Chip c calls) (Chip c' calls') h text (OfChip s) m = let r = means_moved memories c c' h.0 text s m.1 in (OfChip r.s', (m.0, r.other))
   means_there (Chip c calls) d' h text (OfMachine r) m = absurd m
   means_there (Machine x) d' h text (OfChip s) m = absurd m
   means_there (Machine x) Empty h text (OfMachine r) m = absurd h
@@ -209,7 +210,7 @@ module _ (blocks : Bool) where
   set_there Empty d' h text (OfMachine r) m = absurd m
   set_there (Chip c calls) Empty h text (OfChip s) m = absurd h
   set_there (Chip c calls) (Machine x) h text (OfChip s) m = absurd h
-  set_there (Chip c calls) (Chip c' calls') h text (OfChip s) m = let r = set_moved blocks c c' h.0 text s m.1 in (OfChip r.s', (m.0, r.other))
+  set_there (Chip c calls) (Chip c' calls') h text (OfChip s) m = let r = set_moved memories c c' h.0 text s m.1 in (OfChip r.s', (m.0, r.other))
   set_there (Chip c calls) d' h text (OfMachine r) m = absurd m
   set_there (Machine x) d' h text (OfChip s) m = absurd m
   set_there (Machine x) Empty h text (OfMachine r) m = absurd h
@@ -227,9 +228,9 @@ module _ (blocks : Bool) where
   set_same (Chip c calls) (Machine x) h text word (OfChip s) s' m m' = absurd h
   set_same (Chip c calls) (Chip c' calls') h text word (OfChip s) (OfMachine r) m m' = absurd m'
   set_same (Chip c calls) (Chip c' calls') h text word (OfChip s) (OfChip s') m m' =
-      let r = set_moved blocks c c' h.0 text s m.1 in
-      let one = set_once blocks c' c (back blocks c c' h.0) text r.s' s' r.other m'.1 in
-      (h.0, source_set blocks c c' h.0 s s' word calls calls' (subst (λ (x : chips.Source). SameSet blocks c c' h.0 s x) one r.same) h.1)
+      let r = set_moved memories c c' h.0 text s m.1 in
+      let one = set_once memories c' c (back memories c c' h.0) text r.s' s' r.other m'.1 in
+      (h.0, source_set memories c c' h.0 s s' word calls calls' (subst (λ (x : chips.Source). SameSet memories c c' h.0 s x) one r.same) h.1)
   set_same (Machine x) Empty h text word (OfMachine r) s' m m' = absurd h
   set_same (Machine x) (Chip c calls) h text word (OfMachine r) s' m m' = absurd h
   set_same (Machine x) (Machine y) h text word (OfMachine r) (OfChip s) m m' = absurd m'
@@ -243,16 +244,16 @@ module _ (blocks : Bool) where
   value_same Empty (Machine x) h told told' v v' sees sees' text s s' m m' = absurd h
   value_same (Chip c calls) Empty h told told' v v' sees sees' text s s' m m' = absurd h
   value_same (Chip c calls) (Machine x) h told told' v v' sees sees' text s s' m m' = absurd h
-  value_same (Chip c calls) (Chip c' calls') h told told' v v' sees sees' text TheTime TheTime m m' = times_same blocks c c' h.0 calls calls' h.1
+  value_same (Chip c calls) (Chip c' calls') h told told' v v' sees sees' text TheTime TheTime m m' = times_same memories c c' h.0 calls calls' h.1
   value_same (Chip c calls) (Chip c' calls') h told told' v v' sees sees' text TheTime (OfChip s') m m' = absurd (m'.0 m)
   value_same (Chip c calls) (Chip c' calls') h told told' v v' sees sees' text TheTime (OfMachine r) m m' = absurd m'
   value_same (Chip c calls) (Chip c' calls') h told told' v v' sees sees' text (OfChip s) TheTime m m' = absurd (m.0 m')
   value_same (Chip c calls) (Chip c' calls') h told told' v v' sees sees' text (OfChip s) (OfMachine r) m m' = absurd m'
   value_same (Chip c calls) (Chip c' calls') h told told' v v' sees sees' text (OfMachine r) s' m m' = absurd m
   value_same (Chip c calls) (Chip c' calls') h told told' v v' sees sees' text (OfChip s) (OfChip s') m m' =
-      let r = means_moved blocks c c' h.0 text s m.1 in
-      let one = means_once blocks c' c (back blocks c c' h.0) text r.s' s' r.other m'.1 in
-      seen_same blocks c c' h.0 calls calls' told told' v v' h.1 sees sees' s s' (subst (λ (x : chips.Source). SameSource blocks c c' h.0 s x) one r.same)
+      let r = means_moved memories c c' h.0 text s m.1 in
+      let one = means_once memories c' c (back memories c c' h.0) text r.s' s' r.other m'.1 in
+      seen_same memories c c' h.0 calls calls' told told' v v' h.1 sees sees' s s' (subst (λ (x : chips.Source). SameSource memories c c' h.0 s x) one r.same)
   value_same (Machine x) Empty h told told' v v' sees sees' text s s' m m' = absurd h
   value_same (Machine x) (Chip c calls) h told told' v v' sees sees' text s s' m m' = absurd h
   value_same (Machine x) (Machine y) h told told' v v' sees sees' text TheTime TheTime m m' = ap machines.time_of h
@@ -268,7 +269,7 @@ module _ (blocks : Bool) where
   columns_same d d' h told told' v v' sees sees' (item ∷ items) [] ss' m m' = absurd m
   columns_same d d' h told told' v v' sees sees' (item ∷ items) (s ∷ ss) [] m m' = absurd m'
   columns_same d d' h told told' v v' sees sees' (item ∷ items) (s ∷ ss) (s' ∷ ss') m m' =
-      ap₂ (λ (x : Value) (rest : List ℕ). column_text (layout_of item) (value_text (format_of item.format) x) ++ rest)
+      ap₂ (λ (x : Value) (rest : List ℕ). column_text item.layout (value_text item.layout.format x) ++ rest)
       (value_same d d' h told told' v v' sees sees' item.variable.text s s' m.0 m'.0)
       (columns_same d d' h told told' v v' sees sees' items ss ss' m.1 m'.1)
 
@@ -359,12 +360,12 @@ module _ (blocks : Bool) where
   rom_there (Chip c calls) (Machine m) h rom = absurd h
   rom_there (Chip c calls) (Chip c' calls') h rom =
       let x = rom_has c calls rom in
-      let r = block_moved blocks c c' h.0 (codes "ROM32K") rom.block x.has in
-      record { chip = c'; calls = calls'; is = refl; block = r.b'; has = r.other; whole = size_moved blocks c c' h.0 (λ n. n ≡ 32768) rom.block r.b' r.same x.whole }
+      let r = block_moved memories c c' h.0 (codes "ROM32K") rom.block x.has in
+      record { chip = c'; calls = calls'; is = refl; block = r.b'; has = r.other; whole = size_moved memories c c' h.0 (λ n. n ≡ 32768) rom.block r.b' r.same x.whole }
 
-  loads : (c c' : LoadedChip) (calls calls' : List Call) (o : OneChip blocks c c') → SameCalls o.top o.e o.e' calls calls' → (b b' : ℕ) (image : List ℕ) → HasBlock c.directory (codes "ROM32K") b → HasBlock c'.directory (codes "ROM32K") b' → SameDevice (Chip c (Load b 0 (whole_memory image) ∷ calls)) (Chip c' (Load b' 0 (whole_memory image) ∷ calls'))
+  loads : (c c' : LoadedChip) (calls calls' : List Call) (o : OneChip memories c c') → SameCalls o.top o.e o.e' calls calls' → (b b' : ℕ) (image : List ℕ) → HasBlock c.directory (codes "ROM32K") b → HasBlock c'.directory (codes "ROM32K") b' → SameDevice (Chip c (Load b 0 (whole_memory image) ∷ calls)) (Chip c' (Load b' 0 (whole_memory image) ∷ calls'))
   loads c c' calls calls' o same b b' image h h' =
-      let r = block_moved blocks c c' o (codes "ROM32K") b h in
+      let r = block_moved memories c c' o (codes "ROM32K") b h in
       let one = block_once c'.directory (codes "ROM32K") r.b' b' r.other h' in
       (o, load {from = 0} {words = whole_memory image} (subst (λ (x : ℕ). SameBlock o.e o.e' b x) one r.same) same)
 

@@ -3,6 +3,7 @@
 use Rattle.std.specs.Prelude.{◌≡◌, ◌⊎◌, ℕ, Bool, List, Some}
 use Rattle.outer_world.specs.Files.{Files}
 use Rattle.hdl_tree.specs.declared.library.Entry.{Entry}
+use Rattle.hdl_tree.specs.declared.ends.Memories.{Memories}
 use Rattle.hdl_tree.specs.Chips.{find_entry}
 use Rattle.hdl_check.specs.Whole.{chips_in}
 use Rattle.hdl_elab.specs.declared.fault.ElaborationFault.TheVariants.{Loop}
@@ -11,8 +12,8 @@ use Rattle.tst_runner.specs.Setting.{Setting, setting_of}
 use Rattle.tst_runner.specs.Loading.{HasGathered, IsFaultLine}
 use Rattle.tst_runner.specs.Ends.{HasCompared, IsDifferent, IsDone, IsRefused}
 
--- Two lines that report a loop of one chip that is loaded here, at the path of its text. Each has the nets of a loop of
--- it.
+-- Two lines that report a loop of one chip, of the folder's or of the shipped ones, at the path of its text. Each has the
+-- nets of a loop of it.
 pub record AreLoops (setting : Setting) (line line' : List ℕ) : Type 0 where
   pub name : List ℕ
   pub entries : List Entry
@@ -21,8 +22,8 @@ pub record AreLoops (setting : Setting) (line line' : List ℕ) : Type 0 where
   pub found : find_entry entries name ≡ Some top
   pub nets : List (List ℕ)
   pub nets' : List (List ℕ)
-  pub loop : IsFaultOf (chips_in entries setting.blocks) top (Loop nets)
-  pub loop' : IsFaultOf (chips_in entries setting.blocks) top (Loop nets')
+  pub loop : IsFaultOf (chips_in entries setting.memories) top (Loop nets)
+  pub loop' : IsFaultOf (chips_in entries setting.memories) top (Loop nets')
   pub is : IsFaultLine setting entries name (Loop nets) line
   pub is' : IsFaultLine setting entries name (Loop nets') line'
 
@@ -42,4 +43,4 @@ pub record ScriptIsExact (setting : Setting) : Type 0 where
 
 -- over known files
 abbrev pub ScriptExactLaw : Type 0
-ScriptExactLaw = (path : List ℕ) (files : Files) (blocks : Bool) → ScriptIsExact (setting_of path (Some files) blocks)
+ScriptExactLaw = (path : List ℕ) (files : Files) (memories : Memories) → ScriptIsExact (setting_of path (Some files) memories)

@@ -16,8 +16,9 @@ use Rattle.nand_cli.specs.Commands.Gates.{meaning_in}
 use Rattle.nand_cli.specs.Commands.Soak.{soak_files, soak_source}
 use Rattle.nand_cli.specs.Commands.SoakLevels.{Agree, no_keys, silent_trace}
 
--- Of whatever seed and number, let the program have an image, and let its meaning be tame for the steps that a behaviour of the Computer has at cycle
--- n. Then the levels agree, if the virtual machine may make the gap of the program for each of these steps.
+-- Of whatever seed and number, let the program have an image, and let its meaning be tame for the steps that a
+-- behaviour of the Computer has at cycle n. Then the levels agree, if the virtual machine may make the gap of the
+-- program for each of these steps.
 abbrev pub AgreeLaw : Type 0
 AgreeLaw = (seed number : ℕ) (text : List ℕ) (core : Core) (image : Image) → IsProgram seed number text → FolderMeans (Some (soak_files text)) soak_source core → IsImageOf core image
     → (n k : ℕ) (wires : List ℕ → Histories) → n < k → IsComputer image.words no_keys k wires

@@ -1,4 +1,5 @@
-//! Laws of the summaries of generated programs: the levels of each agree as far as it is tame, and none is refused. No code.
+//! Laws of the summaries of generated programs: the levels of each agree as far as it is tame, and none is refused. No
+//! code.
 #![tactic(auto)]
 
 ghost use Rattle.soak_outcome.specs.Fits.{FitsLaw};

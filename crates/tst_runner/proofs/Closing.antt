@@ -16,6 +16,7 @@ use Rattle.script_parser.specs.declared.tree.Command.{Command}
 use Rattle.script_parser.specs.declared.tree.Act.{Act}
 use Rattle.script_parser.specs.declared.tree.Act.TheVariants as acts
 use Rattle.script_parser.specs.declared.tree.Step.TheVariants as steps
+use Rattle.hdl_tree.specs.declared.ends.Memories.{Memories}
 use Rattle.tst_runner.specs.declared.standing.CompareFile.{CompareFile}
 use Rattle.tst_runner.specs.declared.standing.State.{State}
 use Rattle.tst_runner.specs.declared.standing.Stop.{Stop}
@@ -130,21 +131,21 @@ module _ (setting : Setting) (there : List ℕ → Bool) (unfailing : Type 0) (w
       (take (whole h.t.out) h.t.out, h.t.err ++ take q.n (q.text ++ 10 ∷ []), record { s = h.t; text = q.text; is_at = subst (λ (a : Act). IsAt setting h.t a) q.is (at acts _ are h); on_out = refl; n = q.n; on_err = refl }, subst (λ (x : Option (List ℕ)). Got w x (take (whole h.t.out) h.t.out)) (sym fin.0) h.stopped.1.went, q.went)
 
 -- a script whose text is read
-pub run_ends : (path : List ℕ) (blocks : Bool) (files files' : Option Files) (there there' : List ℕ → Bool) (u u' : Type 0) (o o1 o2 : Option (List ℕ)) (p0 p : List ℕ) (e e1 : Option (List ℕ)) (acts : List Act) (first state : State) (end : Result (Unit {0}) Stop) (compares : Bool) (result : Result Verdict ScriptError) (f f' : ℕ)
-    → p0 ≡ [] → HasActs (setting_of path files blocks) acts → Ran path blocks files files' there there' u u' o o1 p0 p e e1 acts first state end → IsState first at_first → compares ≡ is_some state.compared → Finishes (is_cut end) o1 o2 p f f' (verdict_of end compares) result
-    → Runs (setting_of path files blocks) there u o o2 e e1 result
-run_ends path blocks files files' there there' u u' o o1 o2 p0 p e e1 acts first state end compares result f f' empty are ran begins same fin =
-    ends (setting_of path files blocks) there u o o1 o2 e e1 p acts state end result f f' are
+pub run_ends : (path : List ℕ) (memories : Memories) (files files' : Option Files) (there there' : List ℕ → Bool) (u u' : Type 0) (o o1 o2 : Option (List ℕ)) (p0 p : List ℕ) (e e1 : Option (List ℕ)) (acts : List Act) (first state : State) (end : Result (Unit {0}) Stop) (compares : Bool) (result : Result Verdict ScriptError) (f f' : ℕ)
+    → p0 ≡ [] → HasActs (setting_of path files memories) acts → Ran path memories files files' there there' u u' o o1 p0 p e e1 acts first state end → IsState first at_first → compares ≡ is_some state.compared → Finishes (is_cut end) o1 o2 p f f' (verdict_of end compares) result
+    → Runs (setting_of path files memories) there u o o2 e e1 result
+run_ends path memories files files' there there' u u' o o1 o2 p0 p e e1 acts first state end compares result f f' empty are ran begins same fin =
+    ends (setting_of path files memories) there u o o1 o2 e e1 p acts state end result f f' are
     (ran.does o e at_first begins (record { on_out = record { went = Got-nothing o; rest = empty }; on_err = Got-nothing e }))
     (subst (λ (b : Bool). Finishes (is_cut end) o1 o2 p f f' (verdict_of end b) result) same fin)
 
 -- a script whose text is not read: nothing is put
-pub unread_ends : (path : List ℕ) (blocks : Bool) (files : Option Files) (there : List ℕ → Bool) (u : Type 0) (o e : Option (List ℕ)) (error : LoadError)
-    → Loads {A = Unit {0}} (λ _. ⊥) (IsFaulty (λ text told. RefusesScript text told) files path) (u → LacksFile files path) (Err error) → Runs (setting_of path files blocks) there u o o e e (Err (errors.Unloaded error))
-unread_ends path blocks files there u o e (loads.Refused r) h =
+pub unread_ends : (path : List ℕ) (memories : Memories) (files : Option Files) (there : List ℕ → Bool) (u : Type 0) (o e : Option (List ℕ)) (error : LoadError)
+    → Loads {A = Unit {0}} (λ _. ⊥) (IsFaulty (λ text told. RefusesScript text told) files path) (u → LacksFile files path) (Err error) → Runs (setting_of path files memories) there u o o e e (Err (errors.Unloaded error))
+unread_ends path memories files there u o e (loads.Refused r) h =
     ([], [], inl (record { text = h.0; has = h.2; fault = h.3.0; refused = h.3.1; on_out = refl; on_err = refl; tells = h.4 ∙ ap (message_line path) h.3.2 }), Got-nothing o, Got-nothing e)
-unread_ends path blocks files there u o e loads.Failed h = ([], [], inl (record { on_out = refl; on_err = refl; lacks = h }), Got-nothing o, Got-nothing e)
-unread_ends path blocks files there u o e loads.Memory h = ([], [], inl (refl, refl), Got-nothing o, Got-nothing e)
+unread_ends path memories files there u o e loads.Failed h = ([], [], inl (record { on_out = refl; on_err = refl; lacks = h }), Got-nothing o, Got-nothing e)
+unread_ends path memories files there u o e loads.Memory h = ([], [], inl (refl, refl), Got-nothing o, Got-nothing e)
 
 -- what another shelf lacks that fails less
 unread_weaker : (setting : Setting) (there : List ℕ → Bool) (u v : Type 0) (out err : List ℕ) → (u → v) → IsUnread setting there v out err → IsUnread setting there u out err
@@ -162,16 +163,16 @@ runs_weaker setting there u v o o' e e' (Err errors.Out) k h = h
 runs_weaker setting there u v o o' e e' (Err errors.Err) k h = h
 
 -- a script whose text is read is run from the shelf as this stands then
-pub read_ends : (path : List ℕ) (blocks : Bool) (files files' : Option Files) (there there' : List ℕ → Bool) (u u' : Type 0) (o o' e e' : Option (List ℕ)) (read items : List Command) (result : Result Verdict ScriptError)
+pub read_ends : (path : List ℕ) (memories : Memories) (files files' : Option Files) (there there' : List ℕ → Bool) (u u' : Type 0) (o o' e e' : Option (List ℕ)) (read items : List Command) (result : Result Verdict ScriptError)
     → files' ≡ files → there' ≡ there → (u → u') → items ≡ read → (text : List ℕ) × HasFile files path text × Spells text (commands_of read)
-    → (HasActs (setting_of path files' blocks) (acts_of (commands_of items)) → Runs (setting_of path files' blocks) there' u' o o' e e' result)
-    → Runs (setting_of path files blocks) there u o o' e e' result
-read_ends path blocks files files' there there' u u' o o' e e' read items result kept stays keeps same h runs =
+    → (HasActs (setting_of path files' memories) (acts_of (commands_of items)) → Runs (setting_of path files' memories) there' u' o o' e e' result)
+    → Runs (setting_of path files memories) there u o o' e e' result
+read_ends path memories files files' there there' u u' o o' e e' read items result kept stays keeps same h runs =
     let acts = acts_of (commands_of items) in
-    let are : HasActs (setting_of path files blocks) acts = (h.0, commands_of read, h.1, h.2, ap (λ (x : List Command). acts_of (commands_of x)) same) in
-    let are_then = subst (λ (x : Option Files). HasActs (setting_of path x blocks) acts) (sym kept) are in
-    let here = subst (λ (x : Option Files). Runs (setting_of path x blocks) there' u' o o' e e' result) kept (runs are_then) in
-    runs_weaker (setting_of path files blocks) there u u' o o' e e' result keeps (subst (λ (x : List ℕ → Bool). Runs (setting_of path files blocks) x u' o o' e e' result) stays here)
+    let are : HasActs (setting_of path files memories) acts = (h.0, commands_of read, h.1, h.2, ap (λ (x : List Command). acts_of (commands_of x)) same) in
+    let are_then = subst (λ (x : Option Files). HasActs (setting_of path x memories) acts) (sym kept) are in
+    let here = subst (λ (x : Option Files). Runs (setting_of path x memories) there' u' o o' e e' result) kept (runs are_then) in
+    runs_weaker (setting_of path files memories) there u u' o o' e e' result keeps (subst (λ (x : List ℕ → Bool). Runs (setting_of path files memories) x u' o o' e e' result) stays here)
 
 -- ---- the counts of faults
 

@@ -94,8 +94,8 @@ module _ (from : Sources) (first stack : List (List ℕ)) (entries : List Entry)
       let found = is.found in
       let pushed = is.needed in
       let more = is.pushed in
-      let on : Leads from first [] (needed_names from.blocks entry ++ others) (entries ++ entry ∷ []) = past_found entry next.new found (to_next name origin others next) in
-      let grown : Leads from first [] (needed_names from.blocks entry ++ others) entries' = subst (λ (es : List Entry). Leads from first [] (needed_names from.blocks entry ++ others) es) (sym more) on in
+      let on : Leads from first [] (needed_names from.memories entry ++ others) (entries ++ entry ∷ []) = past_found entry next.new found (to_next name origin others next) in
+      let grown : Leads from first [] (needed_names from.memories entry ++ others) entries' = subst (λ (es : List Entry). Leads from first [] (needed_names from.memories entry ++ others) es) (sym more) on in
       subst (λ (names : List (List ℕ)). Leads from first [] names entries') (sym pushed) grown
 
   pub fewer : (name : List ℕ) (origin : Origin) (others stack' : List (List ℕ)) (entries' : List Entry) → IsNext from stack entries name origin others → IsMore from name others entries stack' entries'

@@ -39,10 +39,10 @@ module _ {from : Sources} {first : List (List ℕ)} {before : List Entry} where
   past_nowhere new nowhere leads = passed (inr (inr (new, nowhere.0, nowhere.1, refl, refl))) leads
 
   -- a name whose chip is found
-  pub past_found : {name : List ℕ} {names : List (List ℕ)} {entries : List Entry} (entry : Entry) → find_entry entries name ≡ None → IsFound from name entry → Leads from first before (name ∷ names) entries → Leads from first before (needed_names from.blocks entry ++ names) (entries ++ entry ∷ [])
+  pub past_found : {name : List ℕ} {names : List (List ℕ)} {entries : List Entry} (entry : Entry) → find_entry entries name ≡ None → IsFound from name entry → Leads from first before (name ∷ names) entries → Leads from first before (needed_names from.memories entry ++ names) (entries ++ entry ∷ [])
   past_found {name} {names} {entries} entry new found leads =
-      let taken : IsTaken from name entries (needed_names from.blocks entry) (entries ++ entry ∷ []) = inr (inl (new, (entry, found, refl, refl))) in
-      record { gathers = λ all g. leads.gathers all (one_more (needed_names from.blocks entry) taken g); fails = λ line g. leads.fails line (later (needed_names from.blocks entry) taken g) }
+      let taken : IsTaken from name entries (needed_names from.memories entry) (entries ++ entry ∷ []) = inr (inl (new, (entry, found, refl, refl))) in
+      record { gathers = λ all g. leads.gathers all (one_more (needed_names from.memories entry) taken g); fails = λ line g. leads.fails line (later (needed_names from.memories entry) taken g) }
 
 pub leads_nowhere_else : (from : Sources) (names : List (List ℕ)) (entries : List Entry) → Leads from names entries names entries
 leads_nowhere_else from names entries = record { gathers = λ all g. g; fails = λ line g. g }

@@ -10,7 +10,7 @@ use Rattle.script_device.specs.Devices.{Device, Source, Means, SeesAll, value_of
 use Rattle.script_device.specs.Running.{CanSee, probe_source}
 use Rattle.script_parser.specs.declared.tree.Item.{Item}
 use Rattle.tst_runner.specs.declared.lines.Column.{Column}
-use Rattle.tst_runner.specs.Lines.{AreMeant, IsLine, IsNameless, columns, format_of, layout_of, values_of}
+use Rattle.tst_runner.specs.Lines.{AreMeant, IsLine, IsNameless, columns, values_of}
 use Rattle.tst_runner.specs.Inner.Columns.{AreColumns, IsColumn}
 
 -- ---- the line of columns
@@ -59,7 +59,7 @@ cells d told v [] (column ∷ shown) are = absurd are
 cells d told v (item ∷ items) [] are = absurd are
 cells d told v (item ∷ items) (column ∷ shown) are =
     let value = value_of d told v (probe_source column.probe) in
-    ap (λ l. column_text l (value_text l.format value) ++ flat_map (cell d told v) shown) are.0.0 ∙ ap (λ t. column_text (layout_of item) (value_text (format_of item.format) value) ++ t) (cells d told v items shown are.1)
+    ap (λ l. column_text l (value_text l.format value) ++ flat_map (cell d told v) shown) are.0.0 ∙ ap (λ t. column_text item.layout (value_text item.layout.format value) ++ t) (cells d told v items shown are.1)
 
 pub shows_line : (d : Device) (items : List Item) (shown : List Column) (line : List ℕ) → (told : List Call) × ((v : ℕ → ℕ → Bool) × SeesAll d told v) → ((told : List Call) (v : ℕ → ℕ → Bool) → SeesAll d told v → line ≡ line_of d told v shown) → AreColumns d items shown → IsLine d items line
 shows_line d items shown line there is are = record {

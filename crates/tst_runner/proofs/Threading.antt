@@ -2,12 +2,15 @@
 use Rattle.std.proofs.Common.{◌≡◌, ℕ, zero, suc, ◌+◌, ◌-◌, ◌<◌, ◌++◌, List, [], ◌∷◌, length, take, drop, get_or, Option, Bool, Result, Ok, Err, refl, sym, ap, ◌∙◌, subst, append_assoc, zero-add, arith, Vec, Global}
 use Rattle.std.proofs.lemmas.List.{append-nil, take_more, take-append-drop}
 use Rattle.outer_world.specs.Files.{Files}
+use Rattle.outer_world.specs.State.{Keeps, shelf_state}
+use Rattle.outer_world.proofs.Keeping.{keeps_all, keeps_then}
 use Rattle.source_files.specs.declared.error.LoadError.TheVariants as loads
 use Rattle.script_parser.specs.declared.tree.Act.{Act}
 use Rattle.script_parser.specs.declared.tree.Command as commands
 use Rattle.script_parser.specs.Trees.{Commands, with_command, commands_of}
 use Rattle.script_parser.specs.Trees.Commands.{End}
 use Rattle.script_parser.proofs.Blocks.{repeat_with}
+use Rattle.hdl_tree.specs.declared.ends.Memories.{Memories}
 use Rattle.tst_runner.specs.declared.standing.State.{State}
 use Rattle.tst_runner.specs.declared.standing.Stop.{Stop}
 use Rattle.tst_runner.specs.declared.standing.Stop.TheVariants as stops
@@ -131,56 +134,50 @@ module _ (setting : Setting) (there : List ℕ → Bool) where
 -- ---- what a part of a run says
 
 -- Acts are done, or some up to one that stops: the shelf, out with what is pending, err and the state before and now.
-pub record Ran (path : List ℕ) (blocks : Bool) (files files' : Option Files) (there there' : List ℕ → Bool) (unfailing unfailing' : Type 0) (out out' : Option (List ℕ)) (pending pending' : List ℕ) (err err' : Option (List ℕ)) (acts : List Act) (state state' : State) (result : Result (Unit {0}) Stop) : Type 0 where
-  pub does : (w e : Option (List ℕ)) (s : Standing) → IsState state s → StandsThere w out e err pending s → PerformsAll (setting_of path files blocks) there unfailing w out' e err' pending' s acts state' result
-  pub kept : files' ≡ files
-  pub stays : there' ≡ there
-  pub keeps : unfailing → unfailing'
+pub record Ran (path : List ℕ) (memories : Memories) (files files' : Option Files) (there there' : List ℕ → Bool) (unfailing unfailing' : Type 0) (out out' : Option (List ℕ)) (pending pending' : List ℕ) (err err' : Option (List ℕ)) (acts : List Act) (state state' : State) (result : Result (Unit {0}) Stop) : Type 0 where
+  pub does : (w e : Option (List ℕ)) (s : Standing) → IsState state s → StandsThere w out e err pending s → PerformsAll (setting_of path files memories) there unfailing w out' e err' pending' s acts state' result
+  pub keeps : Keeps (shelf_state files there unfailing) (shelf_state files' there' unfailing')
 
-pub ran_of : {path : List ℕ} {blocks : Bool} {files : Option Files} {there : List ℕ → Bool} {u : Type 0} {o : Option (List ℕ)} {p : List ℕ} {e : Option (List ℕ)} {state : State} (files' : Option Files) (there' : List ℕ → Bool) (u' : Type 0) (o' : Option (List ℕ)) (p' : List ℕ) (e' : Option (List ℕ)) (acts : List Act) (state' : State) (r : Result (Unit {0}) Stop)
-    → ((w v : Option (List ℕ)) (s : Standing) → IsState state s → StandsThere w o v e p s → PerformsAll (setting_of path files blocks) there u w o' v e' p' s acts state' r)
-    → files' ≡ files → there' ≡ there → (u → u') → Ran path blocks files files' there there' u u' o o' p p' e e' acts state state' r
-ran_of files' there' u' o' p' e' acts state' r does kept stays keeps = record { does = does; kept = kept; stays = stays; keeps = keeps }
+pub ran_of : {path : List ℕ} {memories : Memories} {files : Option Files} {there : List ℕ → Bool} {u : Type 0} {o : Option (List ℕ)} {p : List ℕ} {e : Option (List ℕ)} {state : State} (files' : Option Files) (there' : List ℕ → Bool) (u' : Type 0) (o' : Option (List ℕ)) (p' : List ℕ) (e' : Option (List ℕ)) (acts : List Act) (state' : State) (r : Result (Unit {0}) Stop)
+    → ((w v : Option (List ℕ)) (s : Standing) → IsState state s → StandsThere w o v e p s → PerformsAll (setting_of path files memories) there u w o' v e' p' s acts state' r)
+    → Keeps (shelf_state files there u) (shelf_state files' there' u') → Ran path memories files files' there there' u u' o o' p p' e e' acts state state' r
+ran_of files' there' u' o' p' e' acts state' r does keeps = record { does = does; keeps = keeps }
 
-pub ran_nothing : {path : List ℕ} {blocks : Bool} {files : Option Files} {there : List ℕ → Bool} {u : Type 0} {o : Option (List ℕ)} {p : List ℕ} {e : Option (List ℕ)} {state : State} → Ran path blocks files files there there u u o o p p e e [] state state (Ok tt)
-ran_nothing = record { does = λ w v s at stands. (s, refl, at, stands); kept = refl; stays = refl; keeps = λ q. q }
+pub ran_nothing : {path : List ℕ} {memories : Memories} {files : Option Files} {there : List ℕ → Bool} {u : Type 0} {o : Option (List ℕ)} {p : List ℕ} {e : Option (List ℕ)} {state : State} → Ran path memories files files there there u u o o p p e e [] state state (Ok tt)
+ran_nothing = record { does = λ w v s at stands. (s, refl, at, stands); keeps = keeps_all _ }
 
-pub ran_then : {path : List ℕ} {blocks : Bool} {files files1 files2 : Option Files} {there there1 there2 : List ℕ → Bool} {u u1 u2 : Type 0} {o o1 o2 : Option (List ℕ)} {p p1 p2 : List ℕ} {e e1 e2 : Option (List ℕ)} {state state1 state2 : State} {r : Result (Unit {0}) Stop} (xs ys : List Act)
-    → Ran path blocks files files1 there there1 u u1 o o1 p p1 e e1 xs state state1 (Ok tt)
-    → Ran path blocks files1 files2 there1 there2 u1 u2 o1 o2 p1 p2 e1 e2 ys state1 state2 r
-    → Ran path blocks files files2 there there2 u u2 o o2 p p2 e e2 (xs ++ ys) state state2 r
-ran_then {path} {blocks} {files} {files1} {files2} {there} {there1} {there2} {u} {u1} {u2} {o} {o1} {o2} {p} {p1} {p2} {e} {e1} {e2} {state} {state1} {state2} {r} xs ys h k = record {
+pub ran_then : {path : List ℕ} {memories : Memories} {files files1 files2 : Option Files} {there there1 there2 : List ℕ → Bool} {u u1 u2 : Type 0} {o o1 o2 : Option (List ℕ)} {p p1 p2 : List ℕ} {e e1 e2 : Option (List ℕ)} {state state1 state2 : State} {r : Result (Unit {0}) Stop} (xs ys : List Act)
+    → Ran path memories files files1 there there1 u u1 o o1 p p1 e e1 xs state state1 (Ok tt)
+    → Ran path memories files1 files2 there1 there2 u1 u2 o1 o2 p1 p2 e1 e2 ys state1 state2 r
+    → Ran path memories files files2 there there2 u u2 o o2 p p2 e e2 (xs ++ ys) state state2 r
+ran_then {path} {memories} {files} {files1} {files2} {there} {there1} {there2} {u} {u1} {u2} {o} {o1} {o2} {p} {p1} {p2} {e} {e1} {e2} {state} {state1} {state2} {r} xs ys h k = record {
   does = λ w v s at stands.
       let q = h.does w v s at stands in
       let here = k.does w v q.0 q.2 q.3 in
-      let files_kept = subst (λ (x : Option Files). PerformsAll (setting_of path x blocks) there1 u1 w o2 v e2 p2 q.0 ys state2 r) h.kept here in
-      let there_kept = subst (λ (x : List ℕ → Bool). PerformsAll (setting_of path files blocks) x u1 w o2 v e2 p2 q.0 ys state2 r) h.stays files_kept in
-      all_behind (setting_of path files blocks) there u w o2 v e2 p2 s q.0 xs ys state2 r q.1 (all_weaker (setting_of path files blocks) there u u1 w o2 v e2 p2 q.0 ys state2 r h.keeps there_kept);
-  kept = k.kept ∙ h.kept;
-  stays = k.stays ∙ h.stays;
-  keeps = λ q. k.keeps (h.keeps q);
+      let files_kept = subst (λ (x : Option Files). PerformsAll (setting_of path x memories) there1 u1 w o2 v e2 p2 q.0 ys state2 r) h.keeps.files here in
+      let there_kept = subst (λ (x : List ℕ → Bool). PerformsAll (setting_of path files memories) x u1 w o2 v e2 p2 q.0 ys state2 r) h.keeps.there files_kept in
+      all_behind (setting_of path files memories) there u w o2 v e2 p2 s q.0 xs ys state2 r q.1 (all_weaker (setting_of path files memories) there u u1 w o2 v e2 p2 q.0 ys state2 r h.keeps.unfailing there_kept);
+  keeps = keeps_then _ _ _ h.keeps k.keeps;
 }
 
-pub ran_as : {path : List ℕ} {blocks : Bool} {files files' : Option Files} {there there' : List ℕ → Bool} {u u' : Type 0} {o o' : Option (List ℕ)} {p p' : List ℕ} {e e' : Option (List ℕ)} {state state' : State} {r : Result (Unit {0}) Stop} (acts acts' : List Act)
-    → acts ≡ acts' → Ran path blocks files files' there there' u u' o o' p p' e e' acts state state' r → Ran path blocks files files' there there' u u' o o' p p' e e' acts' state state' r
-ran_as {path} {blocks} {files} {files'} {there} {there'} {u} {u'} {o} {o'} {p} {p'} {e} {e'} {state} {state'} {r} acts acts' is h =
-    subst (λ (x : List Act). Ran path blocks files files' there there' u u' o o' p p' e e' x state state' r) is h
+pub ran_as : {path : List ℕ} {memories : Memories} {files files' : Option Files} {there there' : List ℕ → Bool} {u u' : Type 0} {o o' : Option (List ℕ)} {p p' : List ℕ} {e e' : Option (List ℕ)} {state state' : State} {r : Result (Unit {0}) Stop} (acts acts' : List Act)
+    → acts ≡ acts' → Ran path memories files files' there there' u u' o o' p p' e e' acts state state' r → Ran path memories files files' there there' u u' o o' p p' e e' acts' state state' r
+ran_as {path} {memories} {files} {files'} {there} {there'} {u} {u'} {o} {o'} {p} {p'} {e} {e'} {state} {state'} {r} acts acts' is h =
+    subst (λ (x : List Act). Ran path memories files files' there there' u u' o o' p p' e e' x state state' r) is h
 
 -- an act stops them: those that would come do not
-pub ran_cut : {path : List ℕ} {blocks : Bool} {files files' : Option Files} {there there' : List ℕ → Bool} {u u' : Type 0} {o o' : Option (List ℕ)} {p p' : List ℕ} {e e' : Option (List ℕ)} {acts : List Act} {state state' : State} {stop : Stop} (more : List Act)
-    → Ran path blocks files files' there there' u u' o o' p p' e e' acts state state' (Err stop) → Ran path blocks files files' there there' u u' o o' p p' e e' (acts ++ more) state state' (Err stop)
-ran_cut {path} {blocks} {files} {files'} {there} {there'} {u} {u'} {o} {o'} {p} {p'} {e} {e'} {acts} {state} {state'} {stop} more h = record {
-  does = λ w v s at stands. stops_before (setting_of path files blocks) there u w o' v e' p' s acts more stop (h.does w v s at stands);
-  kept = h.kept;
-  stays = h.stays;
+pub ran_cut : {path : List ℕ} {memories : Memories} {files files' : Option Files} {there there' : List ℕ → Bool} {u u' : Type 0} {o o' : Option (List ℕ)} {p p' : List ℕ} {e e' : Option (List ℕ)} {acts : List Act} {state state' : State} {stop : Stop} (more : List Act)
+    → Ran path memories files files' there there' u u' o o' p p' e e' acts state state' (Err stop) → Ran path memories files files' there there' u u' o o' p p' e e' (acts ++ more) state state' (Err stop)
+ran_cut {path} {memories} {files} {files'} {there} {there'} {u} {u'} {o} {o'} {p} {p'} {e} {e'} {acts} {state} {state'} {stop} more h = record {
+  does = λ w v s at stands. stops_before (setting_of path files memories) there u w o' v e' p' s acts more stop (h.does w v s at stands);
   keeps = h.keeps;
 }
 
 -- how they ended, given otherwise
-pub ran_told : {path : List ℕ} {blocks : Bool} {files files' : Option Files} {there there' : List ℕ → Bool} {u u' : Type 0} {o o' : Option (List ℕ)} {p p' : List ℕ} {e e' : Option (List ℕ)} {acts : List Act} {state state' : State} (r r' : Result (Unit {0}) Stop)
-    → r' ≡ r → Ran path blocks files files' there there' u u' o o' p p' e e' acts state state' r → Ran path blocks files files' there there' u u' o o' p p' e e' acts state state' r'
-ran_told {path} {blocks} {files} {files'} {there} {there'} {u} {u'} {o} {o'} {p} {p'} {e} {e'} {acts} {state} {state'} r r' is h =
-    subst (λ (x : Result (Unit {0}) Stop). Ran path blocks files files' there there' u u' o o' p p' e e' acts state state' x) (sym is) h
+pub ran_told : {path : List ℕ} {memories : Memories} {files files' : Option Files} {there there' : List ℕ → Bool} {u u' : Type 0} {o o' : Option (List ℕ)} {p p' : List ℕ} {e e' : Option (List ℕ)} {acts : List Act} {state state' : State} (r r' : Result (Unit {0}) Stop)
+    → r' ≡ r → Ran path memories files files' there there' u u' o o' p p' e e' acts state state' r → Ran path memories files files' there there' u u' o o' p p' e e' acts state state' r'
+ran_told {path} {memories} {files} {files'} {there} {there'} {u} {u'} {o} {o'} {p} {p'} {e} {e'} {acts} {state} {state'} r r' is h =
+    subst (λ (x : Result (Unit {0}) Stop). Ran path memories files files' there there' u u' o o' p p' e e' acts state state' x) (sym is) h
 
 -- ---- the counts of faults
 
@@ -193,8 +190,8 @@ counts_then a a1 a2 b b1 b2 c c1 c2 r h k =
 abbrev pub Holds : State → Option (List ℕ) → Option (List ℕ) → List ℕ → Type 0
 Holds state out err pending = (w e : Option (List ℕ)) × ((s : Standing) × IsState state s × StandsThere w out e err pending s)
 
-pub holds_then : {path : List ℕ} {blocks : Bool} {files files1 : Option Files} {there there1 : List ℕ → Bool} {u u1 : Type 0} {o o1 : Option (List ℕ)} {p p1 : List ℕ} {e e1 : Option (List ℕ)} {state state1 : State} (xs : List Act)
-    → Ran path blocks files files1 there there1 u u1 o o1 p p1 e e1 xs state state1 (Ok tt) → Holds state o e p → Holds state1 o1 e1 p1
+pub holds_then : {path : List ℕ} {memories : Memories} {files files1 : Option Files} {there there1 : List ℕ → Bool} {u u1 : Type 0} {o o1 : Option (List ℕ)} {p p1 : List ℕ} {e e1 : Option (List ℕ)} {state state1 : State} (xs : List Act)
+    → Ran path memories files files1 there there1 u u1 o o1 p p1 e e1 xs state state1 (Ok tt) → Holds state o e p → Holds state1 o1 e1 p1
 holds_then xs h (w, v, (s, at, stands)) =
     let q = h.does w v s at stands in
     (w, v, (q.0, q.2, q.3))

@@ -9,13 +9,14 @@ use Rattle.hdl_tree.specs.declared.tree.Chip.{Chip}
 use Rattle.hdl_tree.specs.declared.tree.Body.{Body}
 use Rattle.hdl_tree.specs.declared.tree.Body.TheVariants as body
 use Rattle.hdl_tree.specs.declared.library.Entry.{Entry}
+use Rattle.hdl_tree.specs.declared.ends.Memories.{Memories}
 use Rattle.hdl_tree.specs.Chips.{end_of, find_entry, parts_of_body, parts_unless}
 use Rattle.hdl_parser.specs.Spells.{Spells, Refuses}
 
--- where chips are found: the shipped ones, whether the memories are blocks, the files, the folder and the names in it
+-- where chips are found: the shipped ones, how the memories are simulated, the files, the folder and the names in it
 pub record Sources : Type 0 where
   pub shipped : List Entry
-  pub blocks : Bool
+  pub memories : Memories
   pub files : Option Files
   pub folder : List ℕ
   pub names : List (List ℕ)
@@ -42,8 +43,8 @@ abbrev pub entry_of : List Entry → List ℕ → Chip → Entry
 entry_of shipped name chip = entry_with shipped name chip chip.body
 
 -- the names of the chips of its parts, in text order; an end has none
-abbrev pub needed_names : Bool → Entry → List (List ℕ)
-needed_names blocks entry = map (λ part. part.chip) (parts_unless (end_of blocks entry) (parts_of_body entry.chip.body))
+abbrev pub needed_names : Memories → Entry → List (List ℕ)
+needed_names memories entry = map (λ part. part.chip) (parts_unless (end_of memories entry) (parts_of_body entry.chip.body))
 
 -- a chip of the folder, or a shipped one, is found under a name
 abbrev pub IsFound : Sources → List ℕ → Entry → Type 0
@@ -55,7 +56,7 @@ IsFound from name entry =
 abbrev pub IsTaken : Sources → List ℕ → List Entry → List (List ℕ) → List Entry → Type 0
 IsTaken from name entries next entries' =
     ((entry : Entry) × (find_entry entries name ≡ Some entry) × (next ≡ []) × (entries' ≡ entries))
-    ⊎ (((find_entry entries name ≡ None) × ((entry : Entry) × IsFound from name entry × (next ≡ needed_names from.blocks entry) × (entries' ≡ entries ++ entry ∷ [])))
+    ⊎ (((find_entry entries name ≡ None) × ((entry : Entry) × IsFound from name entry × (next ≡ needed_names from.memories entry) × (entries' ≡ entries ++ entry ∷ [])))
     ⊎ ((find_entry entries name ≡ None) × (is_in_folder from name ≡ false) × (find_entry from.shipped name ≡ None) × (next ≡ []) × (entries' ≡ entries)))
 
 -- a name is taken in its turn, and its text is refused with this line

@@ -1,33 +1,20 @@
 -- The lines of an output list. (The book, appendix 3.)
 use Rattle.std.specs.Prelude.{◌≡◌, ℕ, Bool, List, [], ◌∷◌, ◌++◌, flat_map}
 use Rattle.gate_sim.specs.Calls.{Call}
-use Rattle.script_columns.specs.declared.layout.Format as shown
-use Rattle.script_columns.specs.declared.layout.Format.TheVariants as shown_as
-use Rattle.script_columns.specs.declared.layout.Layout.{Layout}
 use Rattle.script_columns.specs.declared.layout.Value.{Value}
 use Rattle.script_columns.specs.Columns.{column_text, head_column, value_text}
-use Rattle.script_parser.specs.declared.tree.Format.{Format}
-use Rattle.script_parser.specs.declared.tree.Format.TheVariants.{Binary, Decimal, Text}
 use Rattle.script_parser.specs.declared.tree.Item.{Item}
 use Rattle.script_device.specs.Devices.{Device, Source, Means, SeesAll, value_of}
 
-abbrev pub format_of : Format → shown.Format
-format_of Binary = shown_as.Binary
-format_of Decimal = shown_as.Decimal
-format_of Text = shown_as.Text
-
-abbrev pub layout_of : Item → Layout
-layout_of item = record { format = format_of item.format; left = item.left; shown = item.shown; right = item.right }
-
 -- the names of the items
 abbrev pub head_line : List Item → List ℕ
-head_line items = (124 ∷ []) ++ flat_map (λ item. head_column (layout_of item) item.variable.text) items
+head_line items = (124 ∷ []) ++ flat_map (λ item. head_column item.layout item.variable.text) items
 
 -- the items with their values, as many as there are of both
 abbrev pub columns : List Item → List Value → List ℕ
 columns [] values = []
 columns (item ∷ items) [] = []
-columns (item ∷ items) (value ∷ values) = column_text (layout_of item) (value_text (format_of item.format) value) ++ columns items values
+columns (item ∷ items) (value ∷ values) = column_text item.layout (value_text item.layout.format value) ++ columns items values
 
 -- the items' variables stand for these, one each
 abbrev pub AreMeant : Device → List Item → List Source → Type 0

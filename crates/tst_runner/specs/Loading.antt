@@ -29,7 +29,7 @@ use Rattle.tst_runner.specs.Directories.{IsDirectory}
 -- Where chips are found, when a script loads one: the names in its folder are asked for then.
 pub record HasSources (setting : Setting) (from : Sources) : Type 0 where
   pub shipped : from.shipped ≡ shipped_chips
-  pub blocks : from.blocks ≡ setting.blocks
+  pub memories : from.memories ≡ setting.memories
   pub files : from.files ≡ setting.files
   pub beside : from.folder ≡ folder setting
   pub listed : IfSome setting.files (λ told. IsListing told (folder setting) from.names)
@@ -39,9 +39,9 @@ pub record HasSources (setting : Setting) (from : Sources) : Type 0 where
 pub record IsBuilt (setting : Setting) (entries : List Entry) (name : List ℕ) (chip : LoadedChip) : Type 0 where
   pub top : Entry
   pub found : find_entry entries name ≡ Some top
-  pub fine : IsFine (chips_in entries setting.blocks) top
+  pub fine : IsFine (chips_in entries setting.memories) top
   pub e : Elab
-  pub elaborated : IsElaborated (chips_in entries setting.blocks) top e
+  pub elaborated : IsElaborated (chips_in entries setting.memories) top e
   pub net : chip.net ≡ e.net
   pub ordered : AreOrdered chip.net.nodes chip.net.blocks
   pub directory : IsDirectory entries top e chip.directory
@@ -84,7 +84,7 @@ pub record IsFaulty (setting : Setting) (entries : List Entry) (name line : List
   pub top : Entry
   pub found : find_entry entries name ≡ Some top
   pub fault : ElaborationFault
-  pub is_fault : IsFaultOf (chips_in entries setting.blocks) top fault
+  pub is_fault : IsFaultOf (chips_in entries setting.memories) top fault
   pub is : IsFaultLine setting entries name fault line
 
 -- The chip that is loaded is nowhere.

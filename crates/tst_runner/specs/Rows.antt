@@ -1,12 +1,13 @@
 -- A few scripts that load nothing, and what they put. (The book, appendix 3.)
-use Rattle.std.specs.Prelude.{◌≡◌, ℕ, true, List, [], ◌∷◌, Some, None, codes, replicate}
-use Rattle.script_parser.specs.declared.tree.Format.TheVariants.{Text}
+use Rattle.std.specs.Prelude.{◌≡◌, ℕ, List, [], ◌∷◌, Some, None, codes, replicate}
+use Rattle.script_columns.specs.declared.layout.Format.TheVariants.{Text}
 use Rattle.script_parser.specs.declared.tree.Placed.{Placed}
 use Rattle.script_parser.specs.declared.tree.Item.{Item}
 use Rattle.script_parser.specs.declared.tree.Step.TheVariants as steps
 use Rattle.script_parser.specs.declared.tree.Act.{Act}
 use Rattle.script_parser.specs.declared.tree.Act.TheVariants as acts
 use Rattle.script_parser.specs.Trees.Commands.{End, Then, Repeat}
+use Rattle.hdl_tree.specs.declared.ends.Memories.TheVariants.{Blocks}
 use Rattle.tst_runner.specs.Acts.{acts_of}
 use Rattle.tst_runner.specs.Standing.{Standing, at_first}
 use Rattle.tst_runner.specs.Setting.{Setting, folder}
@@ -20,14 +21,14 @@ placed_act text = record { text = text; place = record { line = 1; column = 13 }
 
 -- `time%S1.4.1`
 abbrev pub time_item : Item
-time_item = record { variable = placed_act (codes "time"); format = Text; left = 1; shown = 4; right = 1 }
+time_item = record { variable = placed_act (codes "time"); layout = record { format = Text; left = 1; shown = 4; right = 1 } }
 
 abbrev pub output : Act
 output = acts.Step steps.Output
 
 -- the script t/a.tst, where no files are known
 abbrev pub setting : Setting
-setting = record { path = codes "t/a.tst"; files = None; blocks = true }
+setting = record { path = codes "t/a.tst"; files = None; memories = Blocks }
 
 -- these acts put this on out and on err
 abbrev pub Puts : List Act → List ℕ → List ℕ → Type 0
@@ -42,7 +43,7 @@ pub record ScriptRowsLaw : Type 0 where
   pub repeated : acts_of (Repeat 2 (Then output (Then (acts.Step steps.Eval) End)) (Then output End)) ≡ output ∷ acts.Step steps.Eval ∷ output ∷ acts.Step steps.Eval ∷ output ∷ []
   pub nameless : Faults setting at_first (acts.Set (placed_act (codes "a")) 1) (codes "t/a.tst:1:13: Name a\n")
   -- a chip that is nowhere is left out of those that are gathered
-  pub missing : Gather (record { shipped = []; blocks = true; files = None; folder = codes "t"; names = [] }) (codes "X" ∷ []) [] []
+  pub missing : Gather (record { shipped = []; memories = Blocks; files = None; folder = codes "t"; names = [] }) (codes "X" ∷ []) [] []
   -- where memory ran out nothing may stand there
   pub before : IsStarved setting [] []
   -- files are looked for where the script stands

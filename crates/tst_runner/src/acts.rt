@@ -1,10 +1,11 @@
 //! The acts of a script, one by one.
 
-ghost use Rattle.std.specs.Prelude.{◌≡◌, ◌<◌, ◌+◌, ◌^◌, ◌++◌, ◌∷◌, [], Bool, true, List, ℕ, Option, IfOk, OnOk};
+ghost use Rattle.std.specs.Prelude.{◌≡◌, ◌<◌, ◌+◌, ◌^◌, ◌++◌, ◌∷◌, [], Bool, List, ℕ, Option, IfOk, OnOk};
 ghost use Rattle.std.specs.Str.Lossy.{utf8_lossy};
 ghost use Rattle.outer_world.specs.Files.{path_in};
 ghost use Rattle.outer_world.specs.Written.{CountsPut, Puts};
 ghost use Rattle.outer_world.specs.Held.{HaveSameSink, pending, sink_of};
+ghost use Rattle.outer_world.specs.State.{Keeps};
 ghost use Rattle.script_parser.specs.declared.tree.Act.TheVariants as acts;
 ghost use Rattle.script_device.specs.Devices as devices;
 ghost use Rattle.script_device.specs.Devices.{after_tock};
@@ -15,10 +16,11 @@ ghost use Rattle.tst_runner.specs.Inner.Outlets.{HasPassed, PutsBehind};
 ghost use Rattle.tst_runner.specs.Inner.States.{Becomes, Compares, CountsStop, FindsColumns, IsNameStop, IsState, Misses, Performs, PutsEcho, PutsOut, Quietly, StandsThere};
 
 use crate::files::{load_compared, load_image, path_beside};
-use crate::lines::{Column, layout_of, names_line, values_line};
+use crate::lines::{Column, names_line, values_line};
 use crate::loading::load_device;
 use crate::printing::put_through;
 use crate::standing::{CompareFile, Difference, State, Stop};
+use hdl_tree::Memories;
 use outer_world::{Detail, Diagnostic, Name, Pieces, Put, Shelf, Sink};
 use script_columns::{agrees_first, past_line, past_lines};
 use script_device::Device;
@@ -26,11 +28,11 @@ use script_parser::{Act, Item, Placed, Step};
 use source_files::LoadError;
 use std::alloc::{AllocError, Global};
 
-/// A script: its path, and whether the memories of its chips are blocks, and their netlists simplified.
+/// A script: its path, how the memories of its chips are simulated, and whether their netlists are simplified.
 #[derive(Clone, Copy)]
 pub struct Script<'a> {
     pub path: &'a str,
-    pub blocks: bool,
+    pub memories: Memories,
     pub simplify: bool,
 }
 
@@ -84,7 +86,9 @@ fn compare(line: &[u8], state: &mut State) -> Result<(), Stop>
 // Hands on a text, after those before it: whole pieces go out, and the rest is pending.
 fn put_behind<O: Sink>(text: &[u8], out: &mut Pieces<'_, O>) -> Put
     ensures same_sink { HaveSameSink out.old out.new }
-    ensures puts { (before : Option (List ℕ)) (front : List ℕ) → HasPassed before (O.written (sink_of out.old)) (pending out.old) front → PutsBehind before (O.written (sink_of out.new)) (pending out.new) front text.now result }
+    ensures puts { (before : Option (List ℕ)) (front : List ℕ)
+        → HasPassed before (O.written (sink_of out.old)) (pending out.old) front
+        → PutsBehind before (O.written (sink_of out.new)) (pending out.new) front text.now result }
     ensures counts { CountsPut (O.faults (sink_of out.old)) (O.faults (sink_of out.new)) result }
 {
     out.put(text)
@@ -93,8 +97,11 @@ fn put_behind<O: Sink>(text: &[u8], out: &mut Pieces<'_, O>) -> Put
 // Puts a line, and compares it.
 fn put_line<O: Sink>(line: Vec<u8>, state: &mut State, out: &mut Pieces<'_, O>) -> Result<(), Stop>
     requires { (r : Standing) × IsState state.old r }
-    ensures puts { (w e f : Option (List ℕ)) (r : Standing) → IsState state.old r → StandsThere w (O.written (sink_of out.old)) e f (pending out.old) r → PutsOut w (O.written (sink_of out.new)) e f (pending out.new) r line.items state.new result }
-    ensures counts { (h e : ℕ) → CountsStop h h (O.faults (sink_of out.old)) (O.faults (sink_of out.new)) e e result }
+    ensures puts { (w e f : Option (List ℕ)) (r : Standing) → IsState state.old r
+        → StandsThere w (O.written (sink_of out.old)) e f (pending out.old) r → PutsOut w
+        (O.written (sink_of out.new)) e f (pending out.new) r line.items state.new result }
+    ensures counts { (h e : ℕ)
+        → CountsStop h h (O.faults (sink_of out.old)) (O.faults (sink_of out.new)) e e result }
     ensures same_sink { HaveSameSink out.old out.new }
 {
     if state.lines == u64::MAX {
@@ -109,7 +116,8 @@ fn put_line<O: Sink>(line: Vec<u8>, state: &mut State, out: &mut Pieces<'_, O>) 
 }
 
 fn tock(state: &mut State) -> Result<(), Stop>
-    ensures { (s : Standing) → IsState state.old s → Becomes state.new (record s { device = after_tock s.device }) result }
+    ensures { (s : Standing) → IsState state.old s
+        → Becomes state.new (record s { device = after_tock s.device }) result }
 {
     if state.device.steps() >= MOST_STEPS {
         return Err(Stop::Unloaded(LoadError::Memory));
@@ -124,8 +132,13 @@ fn put_values<O: Sink>(
     out: &mut Pieces<'_, O>,
 ) -> Result<(), Stop>
     requires { (s : Standing) × IsState state.old s }
-    ensures does { (setting : Setting) (there : List ℕ → Bool) (w e f : Option (List ℕ)) (s : Standing) → IsState state.old s → StandsThere w (O.written (sink_of out.old)) e f (pending out.old) s → Performs setting there ⊥ w (O.written (sink_of out.new)) e f (pending out.new) s (acts.Step Step.Output) state.new result }
-    ensures counts { (h e : ℕ) → CountsStop h h (O.faults (sink_of out.old)) (O.faults (sink_of out.new)) e e result }
+    ensures does { (setting : Setting) (there : List ℕ → Bool)
+        (w e f : Option (List ℕ)) (s : Standing)
+        → IsState state.old s → StandsThere w (O.written (sink_of out.old)) e f (pending out.old) s
+        → Performs setting there ⊥ w (O.written (sink_of out.new)) e f (pending out.new) s
+        (acts.Step Step.Output) state.new result }
+    ensures counts { (h e : ℕ)
+        → CountsStop h h (O.faults (sink_of out.old)) (O.faults (sink_of out.new)) e e result }
     ensures same_sink { HaveSameSink out.old out.new }
 {
     let line = values_line(alloc, &state.device, &state.columns)?;
@@ -139,8 +152,13 @@ fn do_step<O: Sink>(
     out: &mut Pieces<'_, O>,
 ) -> Result<(), Stop>
     requires { (s : Standing) × IsState state.old s }
-    ensures does { (setting : Setting) (there : List ℕ → Bool) (w e f : Option (List ℕ)) (s : Standing) → IsState state.old s → StandsThere w (O.written (sink_of out.old)) e f (pending out.old) s → Performs setting there ⊥ w (O.written (sink_of out.new)) e f (pending out.new) s (acts.Step step) state.new result }
-    ensures counts { (h e : ℕ) → CountsStop h h (O.faults (sink_of out.old)) (O.faults (sink_of out.new)) e e result }
+    ensures does { (setting : Setting) (there : List ℕ → Bool)
+        (w e f : Option (List ℕ)) (s : Standing)
+        → IsState state.old s → StandsThere w (O.written (sink_of out.old)) e f (pending out.old) s
+        → Performs setting there ⊥ w (O.written (sink_of out.new)) e f (pending out.new) s
+        (acts.Step step) state.new result }
+    ensures counts { (h e : ℕ)
+        → CountsStop h h (O.faults (sink_of out.old)) (O.faults (sink_of out.new)) e e result }
     ensures same_sink { HaveSameSink out.old out.new }
 {
     match step {
@@ -168,7 +186,8 @@ fn columns_of(
     device: &Device,
     items: &[Item],
 ) -> Result<Vec<Column>, Stop>
-    ensures { (d : devices.Device) → Stands device.now d → FindsColumns path.now d items.now result }
+    ensures { (d : devices.Device) → Stands device.now d
+        → FindsColumns path.now d items.now result }
 {
     let mut columns = Vec::new(alloc);
     for item in items {
@@ -176,7 +195,7 @@ fn columns_of(
             return Err(no_name(alloc, path, &item.variable));
         };
         columns.push(Column {
-            layout: layout_of(item),
+            layout: item.layout,
             probe,
         })?;
     }
@@ -191,8 +210,13 @@ fn do_list<O: Sink>(
     out: &mut Pieces<'_, O>,
 ) -> Result<(), Stop>
     requires { (s : Standing) × IsState state.old s }
-    ensures does { (setting : Setting) (there : List ℕ → Bool) (w e f : Option (List ℕ)) (s : Standing) → setting.path ≡ path.now → IsState state.old s → StandsThere w (O.written (sink_of out.old)) e f (pending out.old) s → Performs setting there ⊥ w (O.written (sink_of out.new)) e f (pending out.new) s (acts.OutputList items.now) state.new result }
-    ensures counts { (h e : ℕ) → CountsStop h h (O.faults (sink_of out.old)) (O.faults (sink_of out.new)) e e result }
+    ensures does { (setting : Setting) (there : List ℕ → Bool)
+        (w e f : Option (List ℕ)) (s : Standing) → setting.path ≡ path.now
+        → IsState state.old s → StandsThere w (O.written (sink_of out.old)) e f (pending out.old) s
+        → Performs setting there ⊥ w (O.written (sink_of out.new)) e f (pending out.new) s
+        (acts.OutputList items.now) state.new result }
+    ensures counts { (h e : ℕ)
+        → CountsStop h h (O.faults (sink_of out.old)) (O.faults (sink_of out.new)) e e result }
     ensures same_sink { HaveSameSink out.old out.new }
 {
     let columns = columns_of(alloc, path, &state.device, items)?;
@@ -209,7 +233,8 @@ fn do_set(
     state: &mut State,
 ) -> Result<(), Stop>
     requires { (s : Standing) × IsState state.old s }
-    ensures { (setting : Setting) (s : Standing) → setting.path ≡ path.now → IsState state.old s → Quietly setting ⊥ s (acts.Set variable.now word) state.new result }
+    ensures { (setting : Setting) (s : Standing) → setting.path ≡ path.now → IsState state.old s
+        → Quietly setting ⊥ s (acts.Set variable.now word) state.new result }
 {
     if state.device.set(variable.text.as_slice(), word) {
         Ok(())
@@ -242,12 +267,15 @@ fn do_load<F: Shelf>(
     state: &mut State,
     shelf: &mut F,
 ) -> Result<(), Stop>
-    ensures does { (s : Standing) → IsState state.old s → Quietly (setting_of script.entry.path.now (F.files shelf.old) script.entry.blocks) (Misses (setting_of script.entry.path.now (F.files shelf.old) script.entry.blocks) (F.there shelf.old) (F.unfailing shelf.old) s (acts.Load file.now)) s (acts.Load file.now) state.new result }
+    ensures does { (s : Standing) → IsState state.old s
+        → Quietly (setting_of script.entry.path.now (F.state shelf.old).files script.entry.memories)
+        (Misses (setting_of script.entry.path.now (F.state shelf.old).files script.entry.memories)
+        (F.state shelf.old).there (F.state shelf.old).unfailing s (acts.Load file.now))
+        s (acts.Load file.now) state.new result }
     ensures runs { OnOk result (DeviceRuns script.entry.simplify state.new.device) }
-    ensures counts { (o e : ℕ) → CountsStop (F.faults shelf.old) (F.faults shelf.new) o o e e result }
-    ensures kept { F.files shelf.new ≡ F.files shelf.old }
-    ensures stays { F.there shelf.new ≡ F.there shelf.old }
-    ensures keeps { F.unfailing shelf.old → F.unfailing shelf.new }
+    ensures counts { (o e : ℕ)
+        → CountsStop (F.faults shelf.old) (F.faults shelf.new) o o e e result }
+    ensures keeps { Keeps (F.state shelf.old) (F.state shelf.new) }
 {
     state.device = load_device(alloc, script, file.text.as_slice(), shelf)?;
     state.columns = Vec::new(alloc);
@@ -269,11 +297,14 @@ fn do_compare<F: Shelf>(
     state: &mut State,
     shelf: &mut F,
 ) -> Result<(), Stop>
-    ensures does { (s : Standing) → IsState state.old s → Quietly (setting_of script.entry.path.now (F.files shelf.old) script.entry.blocks) (Misses (setting_of script.entry.path.now (F.files shelf.old) script.entry.blocks) (F.there shelf.old) (F.unfailing shelf.old) s (acts.CompareTo file.now)) s (acts.CompareTo file.now) state.new result }
-    ensures counts { (o e : ℕ) → CountsStop (F.faults shelf.old) (F.faults shelf.new) o o e e result }
-    ensures kept { F.files shelf.new ≡ F.files shelf.old }
-    ensures stays { F.there shelf.new ≡ F.there shelf.old }
-    ensures keeps { F.unfailing shelf.old → F.unfailing shelf.new }
+    ensures does { (s : Standing) → IsState state.old s
+        → Quietly (setting_of script.entry.path.now (F.state shelf.old).files script.entry.memories)
+        (Misses (setting_of script.entry.path.now (F.state shelf.old).files script.entry.memories)
+        (F.state shelf.old).there (F.state shelf.old).unfailing s (acts.CompareTo file.now))
+        s (acts.CompareTo file.now) state.new result }
+    ensures counts { (o e : ℕ)
+        → CountsStop (F.faults shelf.old) (F.faults shelf.new) o o e e result }
+    ensures keeps { Keeps (F.state shelf.old) (F.state shelf.new) }
 {
     let text = load_compared(alloc, script.path, file.text.as_slice(), shelf)?;
     let path = name_beside(alloc, script.path, file.text.as_slice())?;
@@ -290,11 +321,14 @@ fn do_rom<F: Shelf>(
     state: &mut State,
     shelf: &mut F,
 ) -> Result<(), Stop>
-    ensures does { (s : Standing) → IsState state.old s → Quietly (setting_of script.entry.path.now (F.files shelf.old) script.entry.blocks) (Misses (setting_of script.entry.path.now (F.files shelf.old) script.entry.blocks) (F.there shelf.old) (F.unfailing shelf.old) s (acts.LoadRom word.now file.now)) s (acts.LoadRom word.now file.now) state.new result }
-    ensures counts { (o e : ℕ) → CountsStop (F.faults shelf.old) (F.faults shelf.new) o o e e result }
-    ensures kept { F.files shelf.new ≡ F.files shelf.old }
-    ensures stays { F.there shelf.new ≡ F.there shelf.old }
-    ensures keeps { F.unfailing shelf.old → F.unfailing shelf.new }
+    ensures does { (s : Standing) → IsState state.old s
+        → Quietly (setting_of script.entry.path.now (F.state shelf.old).files script.entry.memories)
+        (Misses (setting_of script.entry.path.now (F.state shelf.old).files script.entry.memories)
+        (F.state shelf.old).there (F.state shelf.old).unfailing s (acts.LoadRom word.now file.now))
+        s (acts.LoadRom word.now file.now) state.new result }
+    ensures counts { (o e : ℕ)
+        → CountsStop (F.faults shelf.old) (F.faults shelf.new) o o e e result }
+    ensures keeps { Keeps (F.state shelf.old) (F.state shelf.new) }
 {
     if !state.device.has_rom() {
         return Err(no_name(alloc, script.path, word));
@@ -314,13 +348,18 @@ pub fn perform<F: Shelf, O: Sink, E: Sink>(
     out: &mut Pieces<'_, O>,
     err: &mut E,
 ) -> Result<(), Stop>
-    requires { (w e : Option (List ℕ)) × ((s : Standing) × IsState state.old s × StandsThere w (O.written (sink_of out.old)) e (E.written err.old) (pending out.old) s) }
-    ensures does { (w e : Option (List ℕ)) (s : Standing) → IsState state.old s → StandsThere w (O.written (sink_of out.old)) e (E.written err.old) (pending out.old) s → Performs (setting_of script.entry.path.now (F.files shelf.old) script.entry.blocks) (F.there shelf.old) (F.unfailing shelf.old) w (O.written (sink_of out.new)) e (E.written err.new) (pending out.new) s act.now state.new result }
-    ensures counts { CountsStop (F.faults shelf.old) (F.faults shelf.new) (O.faults (sink_of out.old)) (O.faults (sink_of out.new)) (E.faults err.old) (E.faults err.new) result }
+    requires { (w e : Option (List ℕ)) × ((s : Standing) × IsState state.old s
+        × StandsThere w (O.written (sink_of out.old)) e (E.written err.old) (pending out.old) s) }
+    ensures does { (w e : Option (List ℕ)) (s : Standing) → IsState state.old s
+        → StandsThere w (O.written (sink_of out.old)) e (E.written err.old) (pending out.old) s
+        → Performs (setting_of script.entry.path.now (F.state shelf.old).files script.entry.memories)
+        (F.state shelf.old).there (F.state shelf.old).unfailing w (O.written (sink_of out.new)) e
+        (E.written err.new) (pending out.new) s act.now state.new result }
+    ensures counts { CountsStop (F.faults shelf.old) (F.faults shelf.new)
+        (O.faults (sink_of out.old)) (O.faults (sink_of out.new)) (E.faults err.old)
+        (E.faults err.new) result }
     ensures same_sink { HaveSameSink out.old out.new }
-    ensures kept { F.files shelf.new ≡ F.files shelf.old }
-    ensures stays { F.there shelf.new ≡ F.there shelf.old }
-    ensures keeps { F.unfailing shelf.old → F.unfailing shelf.new }
+    ensures keeps { Keeps (F.state shelf.old) (F.state shelf.new) }
 {
     match act {
         Act::Step(step) => do_step(alloc, *step, state, out),

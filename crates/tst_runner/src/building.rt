@@ -22,7 +22,7 @@ ghost use Rattle.tst_runner.specs.Setting.{Setting, setting_of};
 use crate::directories::{directory_of, entry_named};
 use crate::files::folder_of;
 use hdl_elab::{Elab, ElaborationFault, elaborate};
-use hdl_tree::{Entry, Library, Name};
+use hdl_tree::{Entry, Library, Memories, Name};
 use netlist::Netlist;
 use outer_world::{Detail, Diagnostic};
 use script_device::{Directory, DrivenChip};
@@ -63,7 +63,8 @@ fn path_of_text(
     library: &Library,
     name: &[u8],
 ) -> Result<Vec<u8>, AllocError>
-    ensures { IfOk result (λ text. (setting : Setting) → setting.path ≡ path.now → text.items ≡ path_of_text setting library.now.entries name.now) }
+    ensures { IfOk result (λ text. (setting : Setting) → setting.path ≡ path.now
+        → text.items ≡ path_of_text setting library.now.entries name.now) }
 {
     let Some(entry) = entry_named(library.entries.as_slice(), name) else {
         return file_in(alloc, folder_of(path).as_bytes(), name);
@@ -107,7 +108,8 @@ fn diagnostic_of(
     name: &Name,
     fault: ElaborationFault,
 ) -> Result<(Vec<u8>, Diagnostic), AllocError>
-    ensures { IfOk result (λ r. (setting : Setting) → setting.path ≡ path.now → IsFaultLine setting library.now.entries name.now fault (message_line r.0.items r.1)) }
+    ensures { IfOk result (λ r. (setting : Setting) → setting.path ≡ path.now
+        → IsFaultLine setting library.now.entries name.now fault (message_line r.0.items r.1)) }
 {
     match fault {
         ElaborationFault::Memory => Err(AllocError),
@@ -165,9 +167,12 @@ fn evaluated(
     requires few { length e.net.nodes < 2 ^ 32 - 1 }
     ensures runs { IfOk result (ChipRuns simplify) }
     ensures net { IfOk result (λ chip. (chip_of chip).net ≡ e.net) }
-    ensures ordered { IfOk result (λ chip. AreOrdered (chip_of chip).net.nodes (chip_of chip).net.blocks) }
-    ensures directory { IfOk result (λ chip. IsDirectory library.now.entries top.now e (chip_of chip).directory) }
-    ensures among { IfOk result (λ chip. All (Contains (map (part_nodes library.now.entries) e.parts)) (chip_of chip).directory.parts) }
+    ensures ordered { IfOk result
+        (λ chip. AreOrdered (chip_of chip).net.nodes (chip_of chip).net.blocks) }
+    ensures directory { IfOk result
+        (λ chip. IsDirectory library.now.entries top.now e (chip_of chip).directory) }
+    ensures among { IfOk result (λ chip. All
+        (Contains (map (part_nodes library.now.entries) e.parts)) (chip_of chip).directory.parts) }
     ensures driven { IfOk result (λ chip. IsDriven chip (Eval ∷ [])) }
     ensures start { IfOk result (λ chip. time_of chip ≡ 0) }
 {
@@ -188,11 +193,15 @@ pub fn build_chip(
     path: &str,
     library: &Library,
     name: &Name,
-    blocks: bool,
+    memories: Memories,
     simplify: bool,
 ) -> Result<DrivenChip, LoadError>
     requires sound { IsSound library.now.entries }
-    ensures loads { (files : Option Files) → Loads (λ (chip : DrivenChip). IsBuilt (setting_of path.now files blocks) library.now.entries name.now (chip_of chip)) (λ line. IsUnknown (setting_of path.now files blocks) library.now.entries name.now line ⊎ IsFaulty (setting_of path.now files blocks) library.now.entries name.now line) ⊥ result }
+    ensures loads { (files : Option Files) → Loads (λ (chip : DrivenChip).
+        IsBuilt (setting_of path.now files memories) library.now.entries name.now (chip_of chip))
+        (λ line. IsUnknown (setting_of path.now files memories) library.now.entries name.now line
+        ⊎ IsFaulty (setting_of path.now files memories) library.now.entries name.now
+        line) ⊥ result }
     ensures driven { IfOk result (λ chip. IsDriven chip (Eval ∷ [])) }
     ensures start { IfOk result (λ chip. time_of chip ≡ 0) }
     ensures runs { IfOk result (ChipRuns simplify) }
@@ -200,7 +209,7 @@ pub fn build_chip(
     let Some(top) = entry_named(library.entries.as_slice(), name.as_bytes()) else {
         return Err(unknown(alloc, path, name));
     };
-    match elaborate(alloc, library, name, blocks) {
+    match elaborate(alloc, library, name, memories) {
         Ok(e) => Ok(evaluated(alloc, library, top, e, simplify)?),
         Err(fault) => {
             let (text, told) = diagnostic_of(alloc, path, library, name, fault)?;

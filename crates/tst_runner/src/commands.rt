@@ -1,12 +1,13 @@
 //! A script, act by act.
 
-ghost use Rattle.std.specs.Prelude.{◌≡◌, List, ℕ, Option, Result};
+ghost use Rattle.std.specs.Prelude.{List, ℕ, Option, Result};
 ghost use Rattle.script_parser.specs.Trees.{commands_of, with_command};
 ghost use Rattle.script_parser.specs.Trees.Commands.{End};
 ghost use Rattle.tst_runner.specs.Acts.{acts_of};
 ghost use Rattle.tst_runner.specs.Setting.{setting_of};
 ghost use Rattle.tst_runner.specs.Standing.{Standing};
 ghost use Rattle.outer_world.specs.Held.{HaveSameSink, pending, sink_of};
+ghost use Rattle.outer_world.specs.State.{Keeps};
 ghost use Rattle.tst_runner.specs.Inner.States.{CountsStop, IsState, PerformsAll, StandsThere};
 
 use crate::acts::{Script, perform};
@@ -26,13 +27,20 @@ fn run_command<F: Shelf, O: Sink, E: Sink>(
     out: &mut Pieces<'_, O>,
     err: &mut E,
 ) -> Result<(), Stop>
-    requires { (w e : Option (List ℕ)) × ((s : Standing) × IsState state.old s × StandsThere w (O.written (sink_of out.old)) e (E.written err.old) (pending out.old) s) }
-    ensures does { (w e : Option (List ℕ)) (s : Standing) → IsState state.old s → StandsThere w (O.written (sink_of out.old)) e (E.written err.old) (pending out.old) s → PerformsAll (setting_of script.entry.path.now (F.files shelf.old) script.entry.blocks) (F.there shelf.old) (F.unfailing shelf.old) w (O.written (sink_of out.new)) e (E.written err.new) (pending out.new) s (acts_of (with_command command.now End)) state.new result }
-    ensures counts { CountsStop (F.faults shelf.old) (F.faults shelf.new) (O.faults (sink_of out.old)) (O.faults (sink_of out.new)) (E.faults err.old) (E.faults err.new) result }
+    requires { (w e : Option (List ℕ)) × ((s : Standing) × IsState state.old s
+        × StandsThere w (O.written (sink_of out.old)) e (E.written err.old) (pending out.old) s) }
+    ensures does { (w e : Option (List ℕ)) (s : Standing) → IsState state.old s
+        → StandsThere w (O.written (sink_of out.old)) e (E.written err.old) (pending out.old) s
+        → PerformsAll
+        (setting_of script.entry.path.now (F.state shelf.old).files script.entry.memories)
+        (F.state shelf.old).there (F.state shelf.old).unfailing w
+        (O.written (sink_of out.new)) e (E.written err.new) (pending out.new) s
+        (acts_of (with_command command.now End)) state.new result }
+    ensures counts { CountsStop (F.faults shelf.old) (F.faults shelf.new)
+        (O.faults (sink_of out.old)) (O.faults (sink_of out.new)) (E.faults err.old)
+        (E.faults err.new) result }
     ensures same_sink { HaveSameSink out.old out.new }
-    ensures kept { F.files shelf.new ≡ F.files shelf.old }
-    ensures stays { F.there shelf.new ≡ F.there shelf.old }
-    ensures keeps { F.unfailing shelf.old → F.unfailing shelf.new }
+    ensures keeps { Keeps (F.state shelf.old) (F.state shelf.new) }
 {
     match command {
         Command::Act(act) => perform(alloc, script, act, state, shelf, out, err),
@@ -56,13 +64,20 @@ pub fn run_commands<F: Shelf, O: Sink, E: Sink>(
     out: &mut Pieces<'_, O>,
     err: &mut E,
 ) -> Result<(), Stop>
-    requires { (w e : Option (List ℕ)) × ((s : Standing) × IsState state.old s × StandsThere w (O.written (sink_of out.old)) e (E.written err.old) (pending out.old) s) }
-    ensures does { (w e : Option (List ℕ)) (s : Standing) → IsState state.old s → StandsThere w (O.written (sink_of out.old)) e (E.written err.old) (pending out.old) s → PerformsAll (setting_of script.entry.path.now (F.files shelf.old) script.entry.blocks) (F.there shelf.old) (F.unfailing shelf.old) w (O.written (sink_of out.new)) e (E.written err.new) (pending out.new) s (acts_of (commands_of commands.now)) state.new result }
-    ensures counts { CountsStop (F.faults shelf.old) (F.faults shelf.new) (O.faults (sink_of out.old)) (O.faults (sink_of out.new)) (E.faults err.old) (E.faults err.new) result }
+    requires { (w e : Option (List ℕ)) × ((s : Standing) × IsState state.old s
+        × StandsThere w (O.written (sink_of out.old)) e (E.written err.old) (pending out.old) s) }
+    ensures does { (w e : Option (List ℕ)) (s : Standing) → IsState state.old s
+        → StandsThere w (O.written (sink_of out.old)) e (E.written err.old) (pending out.old) s
+        → PerformsAll
+        (setting_of script.entry.path.now (F.state shelf.old).files script.entry.memories)
+        (F.state shelf.old).there (F.state shelf.old).unfailing w
+        (O.written (sink_of out.new)) e (E.written err.new) (pending out.new) s
+        (acts_of (commands_of commands.now)) state.new result }
+    ensures counts { CountsStop (F.faults shelf.old) (F.faults shelf.new)
+        (O.faults (sink_of out.old)) (O.faults (sink_of out.new)) (E.faults err.old)
+        (E.faults err.new) result }
     ensures same_sink { HaveSameSink out.old out.new }
-    ensures kept { F.files shelf.new ≡ F.files shelf.old }
-    ensures stays { F.there shelf.new ≡ F.there shelf.old }
-    ensures keeps { F.unfailing shelf.old → F.unfailing shelf.new }
+    ensures keeps { Keeps (F.state shelf.old) (F.state shelf.new) }
 {
     for command in commands {
         run_command(alloc, script, command, state, shelf, out, err)?;

@@ -11,7 +11,7 @@ ghost use Rattle.tst_runner.specs.Directories.{IsDirectory, first_part, out_amon
 use hdl_check::Catalog;
 use hdl_elab::Elab;
 use hdl_flatten::{PartAt, PinAt};
-use hdl_tree::{Entry, Library, List, Pin};
+use hdl_tree::{Entry, Library, List, Memories, Pin};
 use name_table::Table;
 use script_device::{Directory, PartNodes, PinNodes};
 use std::alloc::{AllocError, Global};
@@ -62,7 +62,8 @@ fn cut<T>(items: &[T], n: usize) -> (&[T], &[T])
 
 // The nodes of the pin `out` among these pins, whose nodes stand one after the other.
 fn out_among<'a>(pins: &[Pin], nodes: &'a [u32]) -> Option<&'a [u32]>
-    ensures { MatchOption result (out_among pins.now nodes.now ≡ None) (λ out. out_among pins.now nodes.now ≡ Some out.now) }
+    ensures { MatchOption result (out_among pins.now nodes.now ≡ None)
+        (λ out. out_among pins.now nodes.now ≡ Some out.now) }
 {
     let mut rest = nodes;
     for pin in pins {
@@ -77,7 +78,8 @@ fn out_among<'a>(pins: &[Pin], nodes: &'a [u32]) -> Option<&'a [u32]>
 
 /// The chip of this name.
 pub fn entry_named<'a>(entries: &'a [Entry], name: &[u8]) -> Option<&'a Entry>
-    ensures { MatchOption result (find_entry entries.now name.now ≡ None) (λ entry. find_entry entries.now name.now ≡ Some entry.now) }
+    ensures { MatchOption result (find_entry entries.now name.now ≡ None)
+        (λ entry. find_entry entries.now name.now ≡ Some entry.now) }
 {
     for entry in entries {
         if name == entry.name.as_bytes() {
@@ -128,8 +130,10 @@ pub fn first_parts<'a>(
     parts: &'a [PartAt],
 ) -> Result<List<PartNodes>, AllocError>
     requires { IsCatalog catalog.now }
-    ensures first { IfOk result (λ l. (name : List ℕ) → part_named l name ≡ first_part catalog.now.entries.now parts.now name) }
-    ensures among { IfOk result (λ l. All (Contains (map (part_nodes catalog.now.entries.now) parts.now)) l) }
+    ensures first { IfOk result (λ l. (name : List ℕ)
+        → part_named l name ≡ first_part catalog.now.entries.now parts.now name) }
+    ensures among { IfOk result
+        (λ l. All (Contains (map (part_nodes catalog.now.entries.now) parts.now)) l) }
 {
     let mut named = Vec::new(alloc);
     let mut seen = Table::new(alloc);
@@ -149,10 +153,12 @@ fn parts_named<'a>(
     parts: &'a [PartAt],
 ) -> Result<List<PartNodes>, AllocError>
     requires { AreDistinct library.now.entries }
-    ensures first { IfOk result (λ l. (name : List ℕ) → part_named l name ≡ first_part library.now.entries parts.now name) }
-    ensures among { IfOk result (λ l. All (Contains (map (part_nodes library.now.entries) parts.now)) l) }
+    ensures first { IfOk result
+        (λ l. (name : List ℕ) → part_named l name ≡ first_part library.now.entries parts.now name) }
+    ensures among { IfOk result
+        (λ l. All (Contains (map (part_nodes library.now.entries) parts.now)) l) }
 {
-    let catalog = Catalog::new(alloc, library, false)?;
+    let catalog = Catalog::new(alloc, library, Memories::Gates)?;
     first_parts(alloc, &catalog, parts)
 }
 
@@ -165,7 +171,8 @@ pub fn directory_of(
 ) -> Result<Directory, AllocError>
     requires { AreDistinct library.now.entries }
     ensures directory { IfOk result (λ d. IsDirectory library.now.entries top.now e.now d) }
-    ensures among { IfOk result (λ d. All (Contains (map (part_nodes library.now.entries) e.now.parts)) d.parts) }
+    ensures among { IfOk result
+        (λ d. All (Contains (map (part_nodes library.now.entries) e.now.parts)) d.parts) }
 {
     let (inputs, outputs) = cut(e.pins.as_slice(), top.chip.inputs.as_slice().len());
     Ok(Directory {

@@ -2,11 +2,13 @@
 ghost use Rattle.std.specs.Prelude.{◌≡◌, ◌≤◌, ℕ, Bool, Vec, IfOk, length, string_bytes};
 ghost use Rattle.std.specs.declared.alloc.Global.{Global};
 ghost use Rattle.std.specs.Str.Lossy.{utf8_lossy};
-ghost use Rattle.outer_world.specs.Files.{LacksFile, path_in};
+ghost use Rattle.outer_world.specs.Files.{path_in};
+ghost use Rattle.outer_world.specs.State.{Keeps, MissesFile};
 ghost use Rattle.source_files.specs.Loads.{CountsLoad, Loads};
 ghost use Rattle.tst_runner.specs.Inner.Files.{IsCompared, IsTooLong, form_of};
 ghost use Rattle.tst_runner.specs.Loading.{IsImage, IsNoImage};
 ghost use Rattle.tst_runner.specs.Setting.{folder_of, path_of, setting_of};
+ghost use Rattle.hdl_tree.specs.declared.ends.Memories.{Memories};
 
 use hack_asm::{Form, ProgramLanguage};
 use outer_world::Shelf;
@@ -25,7 +27,8 @@ pub(crate) fn folder_of(path: &str) -> &str
 
 // The path of a file in the folder of the script at a path.
 pub(crate) fn path_beside(alloc: Global, path: &str, file: &[u8]) -> Result<String, AllocError>
-    ensures { IfOk result (λ beside. string_bytes beside ≡ path_in (folder_of path.now) (utf8_lossy file.now)) }
+    ensures { IfOk result
+        (λ beside. string_bytes beside ≡ path_in (folder_of path.now) (utf8_lossy file.now)) }
 {
     let name = String::from_utf8_lossy(alloc, file)?;
     path_in(alloc, folder_of(path), name.as_str())
@@ -51,12 +54,14 @@ pub fn load_image<F: Shelf>(
     file: &[u8],
     shelf: &mut F,
 ) -> Result<Vec<u16>, LoadError>
-    ensures loads { (blocks : Bool) → Loads (λ (words : Vec ℕ Global). IsImage (setting_of path.now (F.files shelf.old) blocks) file.now words.items) (IsNoImage (setting_of path.now (F.files shelf.old) blocks) file.now) (F.unfailing shelf.old → LacksFile (F.files shelf.old) (path_of (setting_of path.now (F.files shelf.old) blocks) file.now)) result }
+    ensures loads { (memories : Memories) → Loads (λ (words : Vec ℕ Global).
+        IsImage (setting_of path.now (F.state shelf.old).files memories) file.now words.items)
+        (IsNoImage (setting_of path.now (F.state shelf.old).files memories) file.now)
+        (MissesFile (F.state shelf.old)
+        (path_of (setting_of path.now (F.state shelf.old).files memories) file.now)) result }
     ensures short { IfOk result (λ words. length words.items ≤ 32768) }
     ensures counts { CountsLoad (F.faults shelf.old) (F.faults shelf.new) result }
-    ensures kept { F.files shelf.new ≡ F.files shelf.old }
-    ensures stays { F.there shelf.new ≡ F.there shelf.old }
-    ensures keeps { F.unfailing shelf.old → F.unfailing shelf.new }
+    ensures keeps { Keeps (F.state shelf.old) (F.state shelf.new) }
 {
     let beside = path_beside(alloc, path, file)?;
     let language = ProgramLanguage {
@@ -74,11 +79,13 @@ pub fn load_compared<F: Shelf>(
     file: &[u8],
     shelf: &mut F,
 ) -> Result<Vec<u8>, LoadError>
-    ensures loads { (blocks : Bool) → Loads (λ (text : Vec ℕ Global). IsCompared (setting_of path.now (F.files shelf.old) blocks) file.now text.items) (IsTooLong (setting_of path.now (F.files shelf.old) blocks) file.now) (F.unfailing shelf.old → LacksFile (F.files shelf.old) (path_of (setting_of path.now (F.files shelf.old) blocks) file.now)) result }
+    ensures loads { (memories : Memories) → Loads (λ (text : Vec ℕ Global).
+        IsCompared (setting_of path.now (F.state shelf.old).files memories) file.now text.items)
+        (IsTooLong (setting_of path.now (F.state shelf.old).files memories) file.now)
+        (MissesFile (F.state shelf.old)
+        (path_of (setting_of path.now (F.state shelf.old).files memories) file.now)) result }
     ensures counts { CountsLoad (F.faults shelf.old) (F.faults shelf.new) result }
-    ensures kept { F.files shelf.new ≡ F.files shelf.old }
-    ensures stays { F.there shelf.new ≡ F.there shelf.old }
-    ensures keeps { F.unfailing shelf.old → F.unfailing shelf.new }
+    ensures keeps { Keeps (F.state shelf.old) (F.state shelf.new) }
 {
     let beside = path_beside(alloc, path, file)?;
     load_text(alloc, beside.as_str(), shelf)

@@ -1,7 +1,8 @@
 //! The chips that a chip needs.
 ghost use Rattle.std.specs.Prelude.{◌≡◌, ◌++◌, ◌∷◌, [], ℕ, List, Option, Vec, IfOk, IfSome, MatchOption, OnOk, map, reverse};
 ghost use Rattle.std.specs.declared.alloc.Global.{Global};
-ghost use Rattle.outer_world.specs.Files.{Files, IsListing, LacksFile, LacksFolder, path_in};
+ghost use Rattle.outer_world.specs.Files.{Files, IsListing, path_in};
+ghost use Rattle.outer_world.specs.State.{Keeps, MissesFile, MissesFolder};
 ghost use Rattle.source_files.specs.Loads.{CountsLoad, Loads};
 ghost use Rattle.source_files.specs.Sources.{IsFaulty, SpellsAt};
 ghost use Rattle.hdl_tree.specs.declared.library.Library.{Library};
@@ -22,17 +23,17 @@ use crate::tables::chip_files;
 use hack_cpu::{library, take_shipped};
 use hdl_names::NamedChips;
 use hdl_parser::HdlLanguage;
-use hdl_tree::{Body, Chip, Entry, Library, Name, Part, find_end};
+use hdl_tree::{Body, Chip, Entry, Library, Memories, Name, Part, find_end};
 use name_table::Table;
 use outer_world::{Listing, Shelf};
 use source_files::{LoadError, load, path_in};
 use std::alloc::{AllocError, Global};
 
-// Where chips are found: the shipped ones, whether the memories are blocks, the folder and the names in it.
+// Where chips are found: the shipped ones, how the memories are simulated, the folder and the names in it.
 #[derive(Clone, Copy)]
 struct Places<'a> {
     shipped: &'a [Entry],
-    blocks: bool,
+    memories: Memories,
     folder: &'a str,
     names: &'a [outer_world::Name],
 }
@@ -50,11 +51,12 @@ fn names_in<F: Shelf>(
     folder: &str,
     shelf: &mut F,
 ) -> Result<Vec<outer_world::Name>, LoadError>
-    ensures loads { Loads (λ (names : Vec (List ℕ) Global). IfSome (F.files shelf.old) (λ told. IsListing told folder.now names.items)) (λ _. ⊥) (F.unfailing shelf.old → LacksFolder (F.files shelf.old) (F.there shelf.old) folder.now) result }
+    ensures loads { Loads (λ (names : Vec (List ℕ) Global).
+        IfSome (F.state shelf.old).files (λ told. IsListing told folder.now names.items)) (λ _. ⊥)
+        (MissesFolder (F.state shelf.old) folder.now)
+        result }
     ensures counts { CountsLoad (F.faults shelf.old) (F.faults shelf.new) result }
-    ensures kept { F.files shelf.new ≡ F.files shelf.old }
-    ensures stays { F.there shelf.new ≡ F.there shelf.old }
-    ensures keeps { F.unfailing shelf.old → F.unfailing shelf.new }
+    ensures keeps { Keeps (F.state shelf.old) (F.state shelf.new) }
 {
     match shelf.list(alloc, folder) {
         Listing::Names(names) => Ok(names),
@@ -70,7 +72,9 @@ fn find_origin<'a>(
     name: &[u8],
 ) -> Option<Origin<'a>>
     requires { ListsFiles places.now.names.now files.now }
-    ensures { (told : Option Files) → MatchOption result (IsNowhere (sources_of places.now told) name.now) (IsOrigin (sources_of places.now told) name.now) }
+    ensures { (told : Option Files)
+        → MatchOption result (IsNowhere (sources_of places.now told) name.now)
+        (IsOrigin (sources_of places.now told) name.now) }
 {
     if let Some(file) = files.find(name) {
         return Some(Origin::File(file));
@@ -90,7 +94,10 @@ fn next_new<'a>(
 ) -> Option<(Name, Origin<'a>)>
     requires tabled { ListsFiles places.now.names.now files.now }
     requires indexed { IsIndexed gathered.now }
-    ensures { (told : Option Files) → MatchOption result (Leads (sources_of places.now told) (reverse stack.old.items) gathered.now.entries [] gathered.now.entries) (λ next. IsNext (sources_of places.now told) (reverse stack.old.items) gathered.now.entries next.0 next.1 (reverse stack.new.items)) }
+    ensures { (told : Option Files) → MatchOption result (Leads (sources_of places.now told)
+        (reverse stack.old.items) gathered.now.entries [] gathered.now.entries)
+        (λ next. IsNext (sources_of places.now told)
+        (reverse stack.old.items) gathered.now.entries next.0 next.1 (reverse stack.new.items)) }
 {
     'names: while let Some(name) = stack.pop() {
         if gathered.has(name.as_bytes()) {
@@ -105,7 +112,8 @@ fn next_new<'a>(
 
 // The shipped chip that a chip which is built in stands for, if there is one, to keep.
 fn original(alloc: Global, chip: &Chip) -> Result<Option<Entry>, AllocError>
-    ensures { (name : List ℕ) → IfOk result (λ own. entry_of shipped_chips name chip.now ≡ built_in name chip.now own) }
+    ensures { (name : List ℕ)
+        → IfOk result (λ own. entry_of shipped_chips name chip.now ≡ built_in name chip.now own) }
 {
     match &chip.body {
         Body::Parts(_) => Ok(None),
@@ -138,11 +146,12 @@ fn load_chip<F: Shelf>(
     file: &str,
     shelf: &mut F,
 ) -> Result<Chip, LoadError>
-    ensures loads { Loads (SpellsAt Spells (F.files shelf.old) (path_in folder.now file.now)) (IsFaulty RefusesHdl (F.files shelf.old) (path_in folder.now file.now)) (F.unfailing shelf.old → LacksFile (F.files shelf.old) (path_in folder.now file.now)) result }
+    ensures loads { Loads (SpellsAt Spells (F.state shelf.old).files (path_in folder.now file.now))
+        (IsFaulty RefusesHdl (F.state shelf.old).files (path_in folder.now file.now))
+        (MissesFile (F.state shelf.old) (path_in folder.now file.now))
+        result }
     ensures counts { CountsLoad (F.faults shelf.old) (F.faults shelf.new) result }
-    ensures kept { F.files shelf.new ≡ F.files shelf.old }
-    ensures stays { F.there shelf.new ≡ F.there shelf.old }
-    ensures keeps { F.unfailing shelf.old → F.unfailing shelf.new }
+    ensures keeps { Keeps (F.state shelf.old) (F.state shelf.new) }
 {
     let path = path_in(alloc, folder, file)?;
     load(alloc, &HdlLanguage, path.as_str(), file, shelf)
@@ -157,12 +166,14 @@ fn find<F: Shelf>(
     shelf: &mut F,
 ) -> Result<Entry, LoadError>
     requires shipped { places.now.shipped.now ≡ shipped_chips }
-    requires origin { IsOrigin (sources_of places.now (F.files shelf.old)) name found }
-    ensures loads { Loads (IsFound (sources_of places.now (F.files shelf.old)) name) (IsRefusedAt (sources_of places.now (F.files shelf.old)) name) (F.unfailing shelf.old → LacksFileOf (sources_of places.now (F.files shelf.old)) name) result }
+    requires origin { IsOrigin (sources_of places.now (F.state shelf.old).files) name found }
+    ensures loads { Loads (IsFound (sources_of places.now (F.state shelf.old).files) name)
+        (IsRefusedAt (sources_of places.now (F.state shelf.old).files) name)
+        ((F.state shelf.old).unfailing
+        → LacksFileOf (sources_of places.now (F.state shelf.old).files) name)
+        result }
     ensures counts { CountsLoad (F.faults shelf.old) (F.faults shelf.new) result }
-    ensures kept { F.files shelf.new ≡ F.files shelf.old }
-    ensures stays { F.there shelf.new ≡ F.there shelf.old }
-    ensures keeps { F.unfailing shelf.old → F.unfailing shelf.new }
+    ensures keeps { Keeps (F.state shelf.old) (F.state shelf.new) }
 {
     match found {
         Origin::File(file) => {
@@ -178,7 +189,8 @@ fn find<F: Shelf>(
 
 // Puts the names of the chips of parts on a stack, the first on top.
 fn push_chips(stack: &mut Vec<Name>, parts: &[Part]) -> Result<(), AllocError>
-    ensures { OnOk result (stack.new.items ≡ stack.old.items ++ reverse (map (λ part. part.chip) parts.now)) }
+    ensures { OnOk result
+        (stack.new.items ≡ stack.old.items ++ reverse (map (λ part. part.chip) parts.now)) }
 {
     for k in (0..parts.len()).rev() {
         stack.push(parts[k].chip.clone()?)?;
@@ -187,10 +199,11 @@ fn push_chips(stack: &mut Vec<Name>, parts: &[Part]) -> Result<(), AllocError>
 }
 
 // Puts the names that a chip needs on a stack, the first on top.
-fn push_needed(stack: &mut Vec<Name>, blocks: bool, entry: &Entry) -> Result<(), AllocError>
-    ensures { OnOk result (reverse stack.new.items ≡ needed_names blocks entry.now ++ reverse stack.old.items) }
+fn push_needed(stack: &mut Vec<Name>, memories: Memories, entry: &Entry) -> Result<(), AllocError>
+    ensures { OnOk result
+        (reverse stack.new.items ≡ needed_names memories entry.now ++ reverse stack.old.items) }
 {
-    if find_end(blocks, entry).is_some() {
+    if find_end(memories, entry).is_some() {
         return Ok(());
     }
     match &entry.chip.body {
@@ -210,18 +223,22 @@ fn gather_one<F: Shelf>(
     shelf: &mut F,
 ) -> Result<(), LoadError>
     requires shipped { places.now.shipped.now ≡ shipped_chips }
-    requires origin { IsOrigin (sources_of places.now (F.files shelf.old)) name found }
+    requires origin { IsOrigin (sources_of places.now (F.state shelf.old).files) name found }
     requires indexed { IsIndexed gathered.old }
-    ensures loads { Loads (λ _. IsMore (sources_of places.now (F.files shelf.old)) name (reverse stack.old.items) gathered.old.entries (reverse stack.new.items) gathered.new.entries)
-        (IsRefusedAt (sources_of places.now (F.files shelf.old)) name) (F.unfailing shelf.old → LacksFileOf (sources_of places.now (F.files shelf.old)) name) result }
+    ensures loads { Loads
+        (λ _. IsMore (sources_of places.now (F.state shelf.old).files) name
+        (reverse stack.old.items)
+        gathered.old.entries (reverse stack.new.items) gathered.new.entries)
+        (IsRefusedAt (sources_of places.now (F.state shelf.old).files) name)
+        ((F.state shelf.old).unfailing
+        → LacksFileOf (sources_of places.now (F.state shelf.old).files) name)
+        result }
     ensures indexed { OnOk result (IsIndexed gathered.new) }
     ensures counts { CountsLoad (F.faults shelf.old) (F.faults shelf.new) result }
-    ensures kept { F.files shelf.new ≡ F.files shelf.old }
-    ensures stays { F.there shelf.new ≡ F.there shelf.old }
-    ensures keeps { F.unfailing shelf.old → F.unfailing shelf.new }
+    ensures keeps { Keeps (F.state shelf.old) (F.state shelf.new) }
 {
     let entry = find(alloc, places, name, found, shelf)?;
-    push_needed(stack, places.blocks, &entry)?;
+    push_needed(stack, places.memories, &entry)?;
     gathered.push(alloc, entry)?;
     Ok(())
 }
@@ -235,13 +252,15 @@ fn gather_from<'a, F: Shelf>(
     shelf: &mut F,
 ) -> Result<Library, LoadError>
     requires shipped { places.now.shipped.now ≡ shipped_chips }
-    requires listed { IfSome (F.files shelf.old) (λ told. IsListing told places.now.folder.now places.now.names.now) }
+    requires listed { IfSome (F.state shelf.old).files
+        (λ told. IsListing told places.now.folder.now places.now.names.now) }
     requires tabled { ListsFiles places.now.names.now files.now }
-    ensures loads { Loads (λ (library : Library). Gather (sources_of places.now (F.files shelf.old)) (name.now ∷ []) [] library.entries) (GatherFails (sources_of places.now (F.files shelf.old)) (name.now ∷ []) []) (F.unfailing shelf.old → LacksFolder (F.files shelf.old) (F.there shelf.old) places.now.folder.now) result }
+    ensures loads { Loads (λ (library : Library). Gather
+        (sources_of places.now (F.state shelf.old).files) (name.now ∷ []) [] library.entries)
+        (GatherFails (sources_of places.now (F.state shelf.old).files) (name.now ∷ []) [])
+        (MissesFolder (F.state shelf.old) places.now.folder.now) result }
     ensures counts { CountsLoad (F.faults shelf.old) (F.faults shelf.new) result }
-    ensures kept { F.files shelf.new ≡ F.files shelf.old }
-    ensures stays { F.there shelf.new ≡ F.there shelf.old }
-    ensures keeps { F.unfailing shelf.old → F.unfailing shelf.new }
+    ensures keeps { Keeps (F.state shelf.old) (F.state shelf.new) }
 {
     let mut gathered = NamedChips::new(alloc);
     let mut stack = Vec::new(alloc);
@@ -262,12 +281,14 @@ fn gather_in<F: Shelf>(
     shelf: &mut F,
 ) -> Result<Library, LoadError>
     requires shipped { places.now.shipped.now ≡ shipped_chips }
-    requires listed { IfSome (F.files shelf.old) (λ told. IsListing told places.now.folder.now places.now.names.now) }
-    ensures loads { Loads (λ (library : Library). Gather (sources_of places.now (F.files shelf.old)) (name.now ∷ []) [] library.entries) (GatherFails (sources_of places.now (F.files shelf.old)) (name.now ∷ []) []) (F.unfailing shelf.old → LacksFolder (F.files shelf.old) (F.there shelf.old) places.now.folder.now) result }
+    requires listed { IfSome (F.state shelf.old).files
+        (λ told. IsListing told places.now.folder.now places.now.names.now) }
+    ensures loads { Loads (λ (library : Library). Gather
+        (sources_of places.now (F.state shelf.old).files) (name.now ∷ []) [] library.entries)
+        (GatherFails (sources_of places.now (F.state shelf.old).files) (name.now ∷ []) [])
+        (MissesFolder (F.state shelf.old) places.now.folder.now) result }
     ensures counts { CountsLoad (F.faults shelf.old) (F.faults shelf.new) result }
-    ensures kept { F.files shelf.new ≡ F.files shelf.old }
-    ensures stays { F.there shelf.new ≡ F.there shelf.old }
-    ensures keeps { F.unfailing shelf.old → F.unfailing shelf.new }
+    ensures keeps { Keeps (F.state shelf.old) (F.state shelf.new) }
 {
     let files = chip_files(alloc, places.names)?;
     gather_from(alloc, places, &files, name, shelf)
@@ -281,22 +302,23 @@ pub fn gather<F: Shelf>(
     alloc: Global,
     path: &str,
     name: &Name,
-    blocks: bool,
+    memories: Memories,
     shelf: &mut F,
 ) -> Result<Library, LoadError>
-    ensures loads { Loads (λ (library : Library). HasGathered (setting_of path.now (F.files shelf.old) blocks) name.now library.entries) (HasFailed (setting_of path.now (F.files shelf.old) blocks) name.now) (F.unfailing shelf.old → LacksFolder (F.files shelf.old) (F.there shelf.old) (folder_of path.now)) result }
+    ensures loads { Loads (λ (library : Library).
+        HasGathered (setting_of path.now (F.state shelf.old).files memories) name.now library.entries)
+        (HasFailed (setting_of path.now (F.state shelf.old).files memories) name.now)
+        (MissesFolder (F.state shelf.old) (folder_of path.now)) result }
     ensures sound { IfOk result (λ library. IsSound library.entries) }
     ensures counts { CountsLoad (F.faults shelf.old) (F.faults shelf.new) result }
-    ensures kept { F.files shelf.new ≡ F.files shelf.old }
-    ensures stays { F.there shelf.new ≡ F.there shelf.old }
-    ensures keeps { F.unfailing shelf.old → F.unfailing shelf.new }
+    ensures keeps { Keeps (F.state shelf.old) (F.state shelf.new) }
 {
     let folder = folder_of(path);
     let names = names_in(alloc, folder, shelf)?;
     let shipped = library(alloc)?;
     let places = Places {
         shipped: shipped.entries.as_slice(),
-        blocks,
+        memories,
         folder,
         names: &names,
     };

@@ -5,7 +5,7 @@ ghost use Rattle.script_device.specs.Devices as devices;
 ghost use Rattle.script_device.specs.Running.{Stands};
 ghost use Rattle.script_parser.specs.declared.tree.Item.{Item};
 ghost use Rattle.tst_runner.specs.Inner.Columns.{AreColumns};
-ghost use Rattle.tst_runner.specs.Lines.{IsLine, format_of, head_line, layout_of};
+ghost use Rattle.tst_runner.specs.Lines.{IsLine, head_line};
 
 use script_columns::{Cell, Layout, push_cell, push_head};
 use script_device::{Device, Probe};
@@ -19,35 +19,13 @@ pub struct Column {
     pub probe: Probe,
 }
 
-fn format_of(format: script_parser::Format) -> script_columns::Format
-    ensures { result ≡ format_of format }
-{
-    match format {
-        script_parser::Format::Binary => script_columns::Format::Binary,
-        script_parser::Format::Decimal => script_columns::Format::Decimal,
-        script_parser::Format::Text => script_columns::Format::Text,
-    }
-}
-
-/// The column of an item.
-pub fn layout_of(item: &Item) -> Layout
-    ensures { result ≡ layout_of item.now }
-{
-    Layout {
-        format: format_of(item.format),
-        left: item.left,
-        shown: item.shown,
-        right: item.right,
-    }
-}
-
 /// The line of the items' names, without its end.
 pub fn names_line(alloc: Global, items: &[Item]) -> Result<Vec<u8>, AllocError>
     ensures { IfOk result (λ line. line.items ≡ head_line items.now) }
 {
     let mut line = Vec::from_slice(alloc, b"|")?;
     for item in items {
-        push_head(&mut line, layout_of(item), item.variable.text.as_slice())?;
+        push_head(&mut line, item.layout, item.variable.text.as_slice())?;
     }
     Ok(line)
 }
@@ -58,8 +36,10 @@ pub fn values_line(
     device: &Device,
     columns: &[Column],
 ) -> Result<Vec<u8>, AllocError>
-    requires { (d : devices.Device) × Stands device.now d × ((items : List Item) × AreColumns d items columns.now) }
-    ensures { IfOk result (λ line. (d : devices.Device) (items : List Item) → Stands device.now d → AreColumns d items columns.now → IsLine d items line.items) }
+    requires { (d : devices.Device) × Stands device.now d
+        × ((items : List Item) × AreColumns d items columns.now) }
+    ensures { IfOk result (λ line. (d : devices.Device) (items : List Item) → Stands device.now d
+        → AreColumns d items columns.now → IsLine d items line.items) }
 {
     let mut line = Vec::from_slice(alloc, b"|")?;
     for column in columns {

@@ -1,13 +1,13 @@
 //! What a script loads.
 
-ghost use Rattle.std.specs.Prelude.{◌≡◌, IfOk, IfSome};
+ghost use Rattle.std.specs.Prelude.{IfOk};
+ghost use Rattle.outer_world.specs.State.{Keeps, MissesFile, MissesFolder};
 ghost use Rattle.source_files.specs.Loads.{CountsLoad, Loads};
-ghost use Rattle.outer_world.specs.Files.{LacksFile, LacksFolder};
 ghost use Rattle.script_device.specs.Running.{DeviceRuns};
 ghost use Rattle.script_device.specs.Driven.{ChipRuns};
 ghost use Rattle.tst_runner.specs.Gathering.{file_of};
 ghost use Rattle.tst_runner.specs.Inner.Loaded.{ChipIsLoaded, MachineIsLoaded, StandsForLoaded};
-ghost use Rattle.tst_runner.specs.Inner.States.{IsNoDevice, LacksDevice};
+ghost use Rattle.tst_runner.specs.Inner.States.{IsNoDevice, MissesDevice};
 ghost use Rattle.tst_runner.specs.Loading.{IsNoImage, IsNotLoaded};
 ghost use Rattle.tst_runner.specs.Setting.{folder_of, path_of, setting_of};
 
@@ -28,21 +28,26 @@ fn load_chip<F: Shelf>(
     name: &[u8],
     shelf: &mut F,
 ) -> Result<DrivenChip, LoadError>
-    ensures loads { Loads (ChipIsLoaded (setting_of script.entry.path.now (F.files shelf.old) script.entry.blocks) (file_of name.now)) (IsNotLoaded (setting_of script.entry.path.now (F.files shelf.old) script.entry.blocks) (file_of name.now)) (F.unfailing shelf.old → LacksFolder (F.files shelf.old) (F.there shelf.old) (folder_of script.entry.path.now)) result }
+    ensures loads { Loads
+        (ChipIsLoaded
+        (setting_of script.entry.path.now (F.state shelf.old).files script.entry.memories)
+        (file_of name.now))
+        (IsNotLoaded
+        (setting_of script.entry.path.now (F.state shelf.old).files script.entry.memories)
+        (file_of name.now)) (MissesFolder (F.state shelf.old) (folder_of script.entry.path.now))
+        result }
     ensures runs { IfOk result (ChipRuns script.entry.simplify) }
     ensures counts { CountsLoad (F.faults shelf.old) (F.faults shelf.new) result }
-    ensures kept { F.files shelf.new ≡ F.files shelf.old }
-    ensures stays { F.there shelf.new ≡ F.there shelf.old }
-    ensures keeps { F.unfailing shelf.old → F.unfailing shelf.new }
+    ensures keeps { Keeps (F.state shelf.old) (F.state shelf.new) }
 {
     let name = Name::from_bytes(alloc, name)?;
-    let library = gather(alloc, script.path, &name, script.blocks, shelf)?;
+    let library = gather(alloc, script.path, &name, script.memories, shelf)?;
     build_chip(
         alloc,
         script.path,
         &library,
         &name,
-        script.blocks,
+        script.memories,
         script.simplify,
     )
 }
@@ -54,11 +59,15 @@ fn load_machine<F: Shelf>(
     file: &[u8],
     shelf: &mut F,
 ) -> Result<ScriptMachine, LoadError>
-    ensures loads { Loads (MachineIsLoaded (setting_of script.entry.path.now (F.files shelf.old) script.entry.blocks) file.now) (IsNoImage (setting_of script.entry.path.now (F.files shelf.old) script.entry.blocks) file.now) (F.unfailing shelf.old → LacksFile (F.files shelf.old) (path_of (setting_of script.entry.path.now (F.files shelf.old) script.entry.blocks) file.now)) result }
+    ensures loads { Loads (MachineIsLoaded
+        (setting_of script.entry.path.now (F.state shelf.old).files script.entry.memories) file.now)
+        (IsNoImage
+        (setting_of script.entry.path.now (F.state shelf.old).files script.entry.memories) file.now)
+        (MissesFile (F.state shelf.old) (path_of
+        (setting_of script.entry.path.now (F.state shelf.old).files script.entry.memories) file.now))
+        result }
     ensures counts { CountsLoad (F.faults shelf.old) (F.faults shelf.new) result }
-    ensures kept { F.files shelf.new ≡ F.files shelf.old }
-    ensures stays { F.there shelf.new ≡ F.there shelf.old }
-    ensures keeps { F.unfailing shelf.old → F.unfailing shelf.new }
+    ensures keeps { Keeps (F.state shelf.old) (F.state shelf.new) }
 {
     let image = load_image(alloc, script.path, file, shelf)?;
     Ok(ScriptMachine::new(alloc, &image)?)
@@ -73,12 +82,16 @@ pub fn load_device<F: Shelf>(
     file: &[u8],
     shelf: &mut F,
 ) -> Result<Device, LoadError>
-    ensures loads { Loads (StandsForLoaded (setting_of script.entry.path.now (F.files shelf.old) script.entry.blocks) file.now) (IsNoDevice (setting_of script.entry.path.now (F.files shelf.old) script.entry.blocks) file.now) (F.unfailing shelf.old → IfSome (F.files shelf.old) (LacksDevice (F.there shelf.old) (setting_of script.entry.path.now (F.files shelf.old) script.entry.blocks) file.now)) result }
+    ensures loads { Loads (StandsForLoaded
+        (setting_of script.entry.path.now (F.state shelf.old).files script.entry.memories) file.now)
+        (IsNoDevice
+        (setting_of script.entry.path.now (F.state shelf.old).files script.entry.memories) file.now)
+        (MissesDevice (F.state shelf.old)
+        (setting_of script.entry.path.now (F.state shelf.old).files script.entry.memories) file.now)
+        result }
     ensures runs { IfOk result (DeviceRuns script.entry.simplify) }
     ensures counts { CountsLoad (F.faults shelf.old) (F.faults shelf.new) result }
-    ensures kept { F.files shelf.new ≡ F.files shelf.old }
-    ensures stays { F.there shelf.new ≡ F.there shelf.old }
-    ensures keeps { F.unfailing shelf.old → F.unfailing shelf.new }
+    ensures keeps { Keeps (F.state shelf.old) (F.state shelf.new) }
 {
     match file.strip_suffix(b".hdl") {
         Some(name) => Ok(Device::Chip(load_chip(alloc, script, name, shelf)?)),

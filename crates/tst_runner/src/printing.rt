@@ -11,8 +11,10 @@ use outer_world::{Pieces, Put, Sink};
 fn put_parts<S: Sink>(parts: &[&[u8]], pieces: &mut Pieces<'_, S>) -> Put
     requires { pending pieces.old ≡ [] }
     ensures same_sink { HaveSameSink pieces.old pieces.new }
-    ensures put { Puts (S.written (sink_of pieces.old)) (S.written (sink_of pieces.new)) (flat_map (λ part. part.now) parts.now) result }
-    ensures counts { CountsPut (S.faults (sink_of pieces.old)) (S.faults (sink_of pieces.new)) result }
+    ensures put { Puts (S.written (sink_of pieces.old)) (S.written (sink_of pieces.new))
+        (flat_map (λ part. part.now) parts.now) result }
+    ensures counts { CountsPut (S.faults (sink_of pieces.old))
+        (S.faults (sink_of pieces.new)) result }
 {
     match pieces.put_all(parts) {
         Put::Done => pieces.finish(),
@@ -22,7 +24,8 @@ fn put_parts<S: Sink>(parts: &[&[u8]], pieces: &mut Pieces<'_, S>) -> Put
 
 /// Puts these parts.
 pub(crate) fn put_through<S: Sink>(parts: &[&[u8]], sink: &mut S) -> Put
-    ensures put { Puts (S.written sink.old) (S.written sink.new) (flat_map (λ part. part.now) parts.now) result }
+    ensures put { Puts (S.written sink.old) (S.written sink.new)
+        (flat_map (λ part. part.now) parts.now) result }
     ensures counts { CountsPut (S.faults sink.old) (S.faults sink.new) result }
 {
     let mut pieces = Pieces::new(sink);

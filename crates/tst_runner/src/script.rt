@@ -1,18 +1,20 @@
 //! A whole script.
 
-ghost use Rattle.std.specs.Prelude.{◌≡◌, [], not};
+ghost use Rattle.std.specs.Prelude.{◌≡◌, []};
 ghost use Rattle.script_parser.specs.Trees.{commands_of};
 ghost use Rattle.tst_runner.specs.Acts.{acts_of};
 ghost use Rattle.tst_runner.specs.Ends.{HasActs};
 ghost use Rattle.tst_runner.specs.Setting.{setting_of};
 ghost use Rattle.tst_runner.specs.Verdicts.{CountsScript, Runs};
 ghost use Rattle.outer_world.specs.Held.{HaveSameSink, pending, sink_of};
+ghost use Rattle.outer_world.specs.State.{Keeps};
 ghost use Rattle.tst_runner.specs.Inner.Scripts.{Finishes, is_cut, verdict_of};
 ghost use Rattle.tst_runner.specs.declared.script.ScriptError.TheVariants as errors;
 
 use crate::acts::Script;
 use crate::commands::run_commands;
 use crate::standing::{Difference, State, Stop};
+use hdl_tree::Memories;
 use outer_world::{Pieces, Put, Shelf, Sink};
 use script_device::Device;
 use script_parser::{Command, ScriptLanguage};
@@ -80,7 +82,9 @@ fn finish<O: Sink>(
     outlet: &mut Pieces<'_, O>,
 ) -> Result<Verdict, ScriptError>
     ensures same_sink { HaveSameSink outlet.old outlet.new }
-    ensures finishes { Finishes (is_cut end) (O.written (sink_of outlet.old)) (O.written (sink_of outlet.new)) (pending outlet.old) (O.faults (sink_of outlet.old)) (O.faults (sink_of outlet.new)) (verdict_of end compares) result }
+    ensures finishes { Finishes (is_cut end) (O.written (sink_of outlet.old))
+        (O.written (sink_of outlet.new)) (pending outlet.old) (O.faults (sink_of outlet.old))
+        (O.faults (sink_of outlet.new)) (verdict_of end compares) result }
 {
     if is_cut(&end) {
         return verdict_of(end, compares);
@@ -102,10 +106,15 @@ fn run_into<F: Shelf, O: Sink, E: Sink>(
 ) -> Result<Verdict, ScriptError>
     requires { pending outlet.old ≡ [] }
     ensures same_sink { HaveSameSink outlet.old outlet.new }
-    ensures runs { HasActs (setting_of script.entry.path.now (F.files shelf.old) script.entry.blocks) (acts_of (commands_of commands.now)) → Runs (setting_of script.entry.path.now (F.files shelf.old) script.entry.blocks) (F.there shelf.old) (F.unfailing shelf.old) (O.written (sink_of outlet.old)) (O.written (sink_of outlet.new)) (E.written err.old) (E.written err.new) result }
-    ensures counts { CountsScript (F.faults shelf.old) (F.faults shelf.new) (O.faults (sink_of outlet.old)) (O.faults (sink_of outlet.new)) (E.faults err.old) (E.faults err.new) result }
-    ensures kept { F.files shelf.new ≡ F.files shelf.old }
-    ensures stays { F.there shelf.new ≡ F.there shelf.old }
+    ensures runs { HasActs (setting_of script.entry.path.now
+        (F.state shelf.old).files script.entry.memories) (acts_of (commands_of commands.now))
+        → Runs (setting_of script.entry.path.now (F.state shelf.old).files script.entry.memories)
+        (F.state shelf.old).there (F.state shelf.old).unfailing (O.written (sink_of outlet.old))
+        (O.written (sink_of outlet.new)) (E.written err.old) (E.written err.new) result }
+    ensures counts { CountsScript (F.faults shelf.old) (F.faults shelf.new)
+        (O.faults (sink_of outlet.old)) (O.faults (sink_of outlet.new)) (E.faults err.old)
+        (E.faults err.new) result }
+    ensures keeps { Keeps (F.state shelf.old) (F.state shelf.new) }
 {
     let mut state = State {
         device: Device::Empty,
@@ -126,34 +135,42 @@ fn run_whole<F: Shelf, O: Sink, E: Sink>(
     out: &mut O,
     err: &mut E,
 ) -> Result<Verdict, ScriptError>
-    ensures runs { HasActs (setting_of script.entry.path.now (F.files shelf.old) script.entry.blocks) (acts_of (commands_of commands.now)) → Runs (setting_of script.entry.path.now (F.files shelf.old) script.entry.blocks) (F.there shelf.old) (F.unfailing shelf.old) (O.written out.old) (O.written out.new) (E.written err.old) (E.written err.new) result }
-    ensures counts { CountsScript (F.faults shelf.old) (F.faults shelf.new) (O.faults out.old) (O.faults out.new) (E.faults err.old) (E.faults err.new) result }
-    ensures kept { F.files shelf.new ≡ F.files shelf.old }
-    ensures stays { F.there shelf.new ≡ F.there shelf.old }
+    ensures runs { HasActs (setting_of script.entry.path.now
+        (F.state shelf.old).files script.entry.memories) (acts_of (commands_of commands.now))
+        → Runs (setting_of script.entry.path.now (F.state shelf.old).files script.entry.memories)
+        (F.state shelf.old).there (F.state shelf.old).unfailing (O.written out.old)
+        (O.written out.new)
+        (E.written err.old) (E.written err.new) result }
+    ensures counts { CountsScript (F.faults shelf.old) (F.faults shelf.new) (O.faults out.old)
+        (O.faults out.new) (E.faults err.old) (E.faults err.new) result }
+    ensures keeps { Keeps (F.state shelf.old) (F.state shelf.new) }
 {
     let mut outlet = Pieces::new(out);
     run_into(alloc, script, commands, shelf, &mut outlet, err)
 }
 
-/// Does what the script at a path says: its output lines on out, its echoes on err, and how it ended. The message of that is not put. With
-/// `gates` the memories of chips are made of gates, and with `simplify` the netlists that run are simplified: all that is put is the same.
+/// Does what the script at a path says: its output lines on out, its echoes on err, and how it ended. The message of that is not put. The
+/// memories of chips are simulated as `memories` says, and with `simplify` the netlists that run are simplified: all that is put is the same.
 pub fn run_script<F: Shelf, O: Sink, E: Sink>(
     alloc: Global,
     path: &str,
-    gates: bool,
+    memories: Memories,
     simplify: bool,
     shelf: &mut F,
     out: &mut O,
     err: &mut E,
 ) -> Result<Verdict, ScriptError>
-    ensures runs { Runs (setting_of path.now (F.files shelf.old) (not gates)) (F.there shelf.old) (F.unfailing shelf.old) (O.written out.old) (O.written out.new) (E.written err.old) (E.written err.new) result }
-    ensures counts { CountsScript (F.faults shelf.old) (F.faults shelf.new) (O.faults out.old) (O.faults out.new) (E.faults err.old) (E.faults err.new) result }
-    ensures kept { F.files shelf.new ≡ F.files shelf.old }
-    ensures stays { F.there shelf.new ≡ F.there shelf.old }
+    ensures runs { Runs (setting_of path.now (F.state shelf.old).files memories)
+        (F.state shelf.old).there
+        (F.state shelf.old).unfailing (O.written out.old) (O.written out.new) (E.written err.old)
+        (E.written err.new) result }
+    ensures counts { CountsScript (F.faults shelf.old) (F.faults shelf.new) (O.faults out.old)
+        (O.faults out.new) (E.faults err.old) (E.faults err.new) result }
+    ensures keeps { Keeps (F.state shelf.old) (F.state shelf.new) }
 {
     let script = Script {
         path,
-        blocks: !gates,
+        memories,
         simplify,
     };
     let commands = load(alloc, &ScriptLanguage, path, "", shelf)?;

@@ -74,7 +74,8 @@ impl<T: Drop> From<AllocFailed<T>> for Stop {
 impl Difference {
     /// Puts the line that reports it.
     pub fn put<S: Sink>(&self, sink: &mut S) -> Put
-        ensures put { Puts (S.written sink.old) (S.written sink.new) (difference_line self.now) result }
+        ensures put { Puts (S.written sink.old) (S.written sink.new)
+            (difference_line self.now) result }
         ensures counts { CountsPut (S.faults sink.old) (S.faults sink.new) result }
     {
         let mut number = Buffer::new();

@@ -9,7 +9,8 @@ use std::alloc::{AllocError, Global};
 
 /// Enters a file, if it is that of a chip.
 fn enter_file<'a>(files: &mut Table<'a, &'a Name>, file: &'a Name) -> Result<(), AllocError>
-    ensures { OnOk result ((names : List (List ℕ)) → ListsFiles names files.old → ListsFiles (names ++ file.now ∷ []) files.new) }
+    ensures { OnOk result ((names : List (List ℕ)) → ListsFiles names files.old
+        → ListsFiles (names ++ file.now ∷ []) files.new) }
 {
     match file.as_bytes().strip_suffix(b".hdl") {
         None => Ok(()),

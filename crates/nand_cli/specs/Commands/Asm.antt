@@ -1,4 +1,5 @@
--- The command `asm`: the words of an assembly text as binary digits, one a line, or why the text is refused. (The book, chapter 6.)
+-- The command `asm`: the words of an assembly text as binary digits, one a line, or why the text is refused. (The book,
+-- chapter 6.)
 use Rattle.std.specs.Prelude.{◌≡◌, ℕ, List, Option}
 use Rattle.outer_world.specs.Files.{Files}
 use Rattle.hack_asm.specs.Image.{image_text}

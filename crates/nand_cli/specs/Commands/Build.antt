@@ -1,5 +1,5 @@
--- The command `build`: the image of the program of a folder as binary digits, one word a line, or why there is no image. (The book, chapters 4 to
--- 12.)
+-- The command `build`: the image of the program of a folder as binary digits, one word a line, or why there is no
+-- image. (The book, chapters 4 to 12.)
 use Rattle.std.specs.Prelude.{◌≡◌, ℕ, List, Option}
 use Rattle.outer_world.specs.Files.{Files}
 use Rattle.hack_asm.specs.Image.{image_text}

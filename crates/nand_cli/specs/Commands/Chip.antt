@@ -1,4 +1,5 @@
--- The command `chip`: the printed form of a shipped chip, or that none has this name. (The book, chapters 1 to 5 and appendix 2.)
+-- The command `chip`: the printed form of a shipped chip, or that none has this name. (The book, chapters 1 to 5 and
+-- appendix 2.)
 use Rattle.std.specs.Prelude.{◌≡◌, ℕ, List, Some, None, codes}
 use Rattle.outer_world.specs.Refusals.{Message, message, message_line}
 use Rattle.hdl_tree.specs.Chips.{find_entry}

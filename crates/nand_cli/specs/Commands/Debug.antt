@@ -1,5 +1,6 @@
--- The command `debug`. It says where the computer made of gates comes to a statement of the Jack source, and what its words say of the call there. It
--- says that this is what the program means, or why the line is refused. (The book, chapters 1 to 5 and 7 to 12.)
+-- The command `debug`. It says where the computer made of gates comes to a statement of the Jack source, and what its
+-- words say of the call there. It says that this is what the program means, or why the line is refused. (The book,
+-- chapters 1 to 5 and 7 to 12.)
 use Rattle.std.specs.Prelude.{◌≡◌, ◌<◌, ◌≤◌, ◌++◌, ℕ, zero, suc, true, List, ◌∷◌, Option, Some, codes, decimal, slice_get}
 use Rattle.outer_world.specs.Files.{Files}
 use Rattle.outer_world.specs.Refusals.{Message, message, message_line}
@@ -61,9 +62,10 @@ module _ (places : Places) (sub : List ℕ) (number : ℕ) (image : Image) (code
 
 -- ---- what is reported
 
--- The view is that of the state to which the program's meaning has come, by the steps counted up to cycle n of this behaviour and over the keys
--- heard. Its point is that of the state. Let a call of a subroutine be under way. Then the places know the subroutine, and `this`, arguments, locals
--- and statics, and the points of its callers, are those of the state.
+-- The view is that of the state to which the program's meaning has come, by the steps counted up to cycle n of this
+-- behaviour and over the keys heard. Its point is that of the state. Let a call of a subroutine be under way. Then the
+-- places know the subroutine, and `this`, arguments, locals and statics, and the points of its callers, are those of
+-- the state.
 pub record IsMeant (core : Core) (places : Places) (view : View) (t : Trace) (n : ℕ) : Type 0 where
   pub after : Listening State
   pub run : run_of (meaning_in core) (start (the_program core)) (heard_keys t n) (steps t n) ≡ Some after
@@ -71,8 +73,8 @@ pub record IsMeant (core : Core) (places : Places) (view : View) (t : Trace) (n 
   pub is_view : (f g : Frame) (below : List Frame) → after.state.frames ≡ f ∷ g ∷ below
       → (s : SubPlaces) × (sub_at places f.subroutine ≡ Some s) × (view ≡ view_of places (λ k. k) (the_program core) s after.state f (g ∷ below))
 
--- This behaviour stops in cycle n, after this many steps. The view is what its words say there, whatever the program did. Where the run of the
--- meaning is tame so far, it is the view of the meaning.
+-- This behaviour stops in cycle n, after this many steps. The view is what its words say there, whatever the program
+-- did. Where the run of the meaning is tame so far, it is the view of the meaning.
 pub record ShowsStop (core : Core) (places : Places) (sub : List ℕ) (number : ℕ) (image : Image) (code : ℕ → ℕ) (n made : ℕ) (view : View) (wires : List ℕ → Histories) : Type 0 where
   pub stops : StopsAt places sub number image code wires n
   pub counted : steps (gates_trace image code wires) n ≡ made
@@ -103,16 +105,16 @@ pub data TellsStop (core : Core) (places : Places) (sub : List ℕ) (number : �
   unstopped : (made : ℕ) → InEach image.words code cycles (ShowsNone places sub number image code cycles made)
       → text ≡ none_text cycles made → TellsStop core places sub number image code cycles text
 
--- So it is in each behaviour of the Computer that has the image and these keys and goes on past that cycle. There are behaviours over any number of
--- cycles.
+-- So it is in each behaviour of the Computer that has the image and these keys and goes on past that cycle. There are
+-- behaviours over any number of cycles.
 pub record IsDebugReport (core : Core) (places : Places) (sub : List ℕ) (number : ℕ) (image : Image) (code : ℕ → ℕ) (cycles : ℕ) (text : List ℕ) : Type 0 where
   pub behaves : (m : ℕ) → (wires : List ℕ → Histories) × IsComputer image.words code m wires
   pub tells : TellsStop core places sub number image code cycles text
 
 -- ---- the line
 
--- The folder means a program that has an image and such a statement, and this is what is reported of it, under the keys of the
--- script.
+-- The folder means a program that has an image and such a statement, and this is what is reported of it, under the keys
+-- of the script.
 abbrev pub DebugPrints : Option Files → Source → List ℕ → ℕ → ℕ → Option (List ℕ) → List ℕ → Type 0
 DebugPrints files source sub number cycles keys out =
     (places : Places) × (here : FolderHasPlaces files source places) × HasStatement places sub number × (lines : List Line) × HasKeys files keys lines
@@ -122,7 +124,8 @@ DebugPrints files source sub number cycles keys out =
 abbrev pub no_point : List ℕ → ℕ → Message
 no_point sub number = message 0 0 (codes "NoPoint") (sub ++ 58 ∷ decimal number)
 
--- The line is refused, and this says why: the folder has no image, or no point of its map is the statement's, or the key script is refused.
+-- The line is refused, and this says why: the folder has no image, or no point of its map is the statement's, or the
+-- key script is refused.
 pub data DebugRefuses (files : Option Files) (source : Source) (sub : List ℕ) (number : ℕ) (keys : Option (List ℕ)) (line : List ℕ) : Type 0 where
   without_image : BuildRefuses files source line → DebugRefuses files source sub number keys line
   without_point : (places : Places) → FolderHasPlaces files source places → (HasStatement places sub number → ⊥) → line ≡ message_line source.folder (no_point sub number)

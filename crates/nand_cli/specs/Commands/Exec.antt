@@ -1,5 +1,5 @@
--- The command `exec`: words of the memory after a run of the instruction machine, or why its program is refused. (The book, chapters 4
--- and 5.)
+-- The command `exec`: words of the memory after a run of the instruction machine, or why its program is refused. (The
+-- book, chapters 4 and 5.)
 use Rattle.std.specs.Prelude.{◌≡◌, ℕ, true, List, Option, codes, nat_eq, if◌then◌else◌}
 use Rattle.std.specs.List.{ends_with}
 use Rattle.outer_world.specs.Files.{Files}
@@ -14,8 +14,8 @@ use Rattle.hack_asm.specs.declared.language.Form.TheVariants.{Assembly, Image}
 abbrev pub form_of : List ℕ → Form
 form_of path = if ends_with nat_eq path (codes ".hack") then Image else Assembly
 
--- The file is that of a program, and no key is pressed. These are the words from one address to another after this many cycles, words that
--- are 0 among them.
+-- The file is that of a program, and no key is pressed. These are the words from one address to another after this many
+-- cycles, words that are 0 among them.
 abbrev pub ExecPrints : Option Files → List ℕ → ℕ → ℕ → ℕ → List ℕ → Type 0
 ExecPrints files path cycles from to out =
     (program : List ℕ) × SpellsAt (SpellsWords (form_of path)) files path program

@@ -1,4 +1,5 @@
--- The report of `run` at level gates: what each behaviour of the computer made of gates shows. (The book, chapters 1 to 5 and 9 to 12.)
+-- The report of `run` at level gates: what each behaviour of the computer made of gates shows. (The book, chapters 1 to
+-- 5 and 9 to 12.)
 use Rattle.std.specs.Prelude.{◌≡◌, ◌<◌, ◌+◌, ◌++◌, ℕ, suc, List, [], Some, get_or}
 use Rattle.outer_world.specs.declared.point.Point.{Point}
 use Rattle.machine_io.specs.Report.{head_text, shown_text}
@@ -22,8 +23,8 @@ use Rattle.tower.specs.Image.{IsImageOf}
 use Rattle.command_line.specs.declared.request.Shown.{Shown}
 use Rattle.command_line.specs.declared.request.Shown.TheVariants.{Nets, Words}
 
--- This holds of each behaviour of the Computer that goes on past cycle n. It has this image in its ROM, and these keys at its keyboard, one in
--- each cycle.
+-- This holds of each behaviour of the Computer that goes on past cycle n. It has this image in its ROM, and these keys
+-- at its keyboard, one in each cycle.
 abbrev pub InEach : List ℕ → (ℕ → ℕ) → ℕ → ((List ℕ → Histories) → Type 0) → Type 0
 InEach image code n P = (m : ℕ) (wires : List ℕ → Histories) → n < m → IsComputer image code m wires → P wires
 
@@ -31,8 +32,9 @@ InEach image code n P = (m : ℕ) (wires : List ℕ → Histories) → n < m →
 abbrev pub gates_trace : Image → (ℕ → ℕ) → (List ℕ → Histories) → Trace
 gates_trace image code wires = trace_shown image.words (the_map image.map) code wires
 
--- What comes after the five lines. It is what is shown of the words of main memory and screen in cycle n of the behaviour. Or it is a line for each
--- part of the Computer, with its outputs in cycle n of some behaviour with this image and these keys.
+-- What comes after the five lines. It is what is shown of the words of main memory and screen in cycle n of the
+-- behaviour. Or it is a line for each part of the Computer, with its outputs in cycle n of some behaviour with this
+-- image and these keys.
 abbrev pub ComesAfter : Shown → List ℕ → (ℕ → ℕ) → ℕ → (List ℕ → Histories) → List ℕ → Type 0
 ComesAfter (Words show) image code n wires rest = rest ≡ shown_text show (word_at wires n)
 ComesAfter Nets image code n wires rest = (other : List ℕ → Histories) × IsComputer image code (suc n) other × ShowsParts other n rest
@@ -48,11 +50,12 @@ pub record ReportsCycle (core : Core) (image : Image) (code : ℕ → ℕ) (n : 
 abbrev pub meaning_in : Core → System State
 meaning_in core = meaning_of (the_program core).subroutines
 
--- The report of n cycles of the computer made of gates, with the image of the program. There are behaviours of it, over any number of cycles
--- (`behaves`). Whatever the program does, this is the report of cycle n of each of them that goes on past cycle n (`reports`). And this is the
--- headline. In each of these behaviours let the meaning's run be tame after the steps counted, over the keys heard. Then the words of heap and
--- screen and the control point at cycle n are those of the meaning (`agrees`). Each that goes on for the gap of the program also makes the
--- meaning's next tame step within it (`follows`).
+-- The report of n cycles of the computer made of gates, with the image of the program. There are behaviours of it, over
+-- any number of cycles (`behaves`). Whatever the program does, this is the report of cycle n of each of them that goes
+-- on past cycle n (`reports`). And this is the headline. In each of these behaviours let the meaning's run be tame
+-- after the steps counted, over the keys heard. Then the words of heap and screen and the control point at cycle n are
+-- those of the meaning (`agrees`). Each that goes on for the gap of the program also makes the meaning's next tame step
+-- within it (`follows`).
 pub record IsGatesReport (core : Core) (code : ℕ → ℕ) (n : ℕ) (shown : Shown) (text : List ℕ) : Type 0 where
   pub image : Image
   pub is_image : IsImageOf core image

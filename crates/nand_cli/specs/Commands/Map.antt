@@ -1,5 +1,5 @@
--- The command `map`: the map of the image of the program of a folder, in its first form or in its second; it is refused as `build` is. (The book,
--- chapters 7 to 11.)
+-- The command `map`: the map of the image of the program of a folder, in its first form or in its second; it is refused
+-- as `build` is. (The book, chapters 7 to 11.)
 use Rattle.std.specs.Prelude.{◌≡◌, ◌≤◌, ℕ, suc, Bool, List, [], ◌∷◌, Option, length, map}
 use Rattle.outer_world.specs.Files.{Files}
 use Rattle.jack_tree.specs.declared.tree.Class.{Class}
@@ -30,8 +30,8 @@ RiseFrom least (a ∷ more) = (least ≤ a) × RiseFrom (suc a) more
 abbrev pub AreRising : List ℕ → Type 0
 AreRising addresses = RiseFrom 0 addresses
 
--- The points of an image are given in ranges, and then the routines that commands share: together they have each address once,
--- rising.
+-- The points of an image are given in ranges, and then the routines that commands share: together they have each
+-- address once, rising.
 pub record HasEachAddress (image : Image) : Type 0 where
   pub mapped : ℕ
   pub points : Covers 0 image.map.points mapped
@@ -41,8 +41,9 @@ pub record HasEachAddress (image : Image) : Type 0 where
 abbrev pub IsWholeMap : Image → Type 0
 IsWholeMap image = HasEachAddress image × AreRising image.map.commits
 
--- A folder's classes mean a program with those of the operating system, and these are its places: of the classes, and of the image of the program. So
--- each address of the image has its control point in them, each subroutine the names of its variables, and each static the address of its word.
+-- A folder's classes mean a program with those of the operating system, and these are its places: of the classes, and
+-- of the image of the program. So each address of the image has its control point in them, each subroutine the names of
+-- its variables, and each static the address of its word.
 pub record HavePlaces (replace : Bool) (own : List Class) (places : Places) : Type 0 where
   pub os : List Class
   pub core : Core
@@ -56,8 +57,8 @@ pub record HavePlaces (replace : Bool) (own : List Class) (places : Places) : Ty
 abbrev pub FolderHasPlaces : Option Files → Source → Places → Type 0
 FolderHasPlaces files source places = (own : List Class) × HasClasses files source.folder (map the_file own) × HavePlaces source.replace own places
 
--- The folder means a program, and this is the map of its image. The first form has its points, its commits and its routines, with the names of
--- its subroutines. The second has the places of its classes.
+-- The folder means a program, and this is the map of its image. The first form has its points, its commits and its
+-- routines, with the names of its subroutines. The second has the places of its classes.
 abbrev pub MapPrints : Option Files → Source → MapFormat → List ℕ → Type 0
 MapPrints files source formats.Points out =
     (core : Core) × (image : Image) × FolderBuilds files source core image × IsWholeMap image × (out ≡ map_text (names_of core) image.map)

@@ -1,4 +1,5 @@
--- The command `run`: what it reports of the program of a folder, and why a folder or a key script is refused. (The book, chapters 9 to 12.)
+-- The command `run`: what it reports of the program of a folder, and why a folder or a key script is refused. (The
+-- book, chapters 9 to 12.)
 use Rattle.std.specs.Prelude.{◌≡◌, ◌<◌, ◌≤◌, ◌++◌, ℕ, zero, suc, List, [], Option, Some, None, codes, decimal, get_or, option_and_then}
 use Rattle.outer_world.specs.Files.{Files, LacksFile}
 use Rattle.source_files.specs.Sources.{IsFaulty, SpellsAt}
@@ -82,10 +83,11 @@ IsJackReport core code n show text =
 abbrev pub trace_in : Image → (ℕ → ℕ) → Trace
 trace_in image code = run_trace image.words (the_map image.map) code
 
--- The report of n cycles of the computer with the image of the program and its map. The steps and the point are those that the map counts in its
--- run, and the words are its own. Whatever the program does, that is what is reported (`reports`). And this is the headline. Where the meaning's
--- run is tame so far, the words and the point at cycle n are the meaning's after these steps over the keys heard. Where it has one more tame
--- step, the computer makes it within the gap of the program (`follows`).
+-- The report of n cycles of the computer with the image of the program and its map. The steps and the point are those
+-- that the map counts in its run, and the words are its own. Whatever the program does, that is what is reported
+-- (`reports`). And this is the headline. Where the meaning's run is tame so far, the words and the point at cycle n are
+-- the meaning's after these steps over the keys heard. Where it has one more tame step, the computer makes it within
+-- the gap of the program (`follows`).
 pub record IsHackReport (core : Core) (code : ℕ → ℕ) (n : ℕ) (show : Show) (text : List ℕ) : Type 0 where
   pub image : Image
   pub is_image : IsImageOf core image
@@ -96,8 +98,8 @@ pub record IsHackReport (core : Core) (code : ℕ → ℕ) (n : ℕ) (show : Sho
   pub gap : IsGap (the_program core) most
   pub follows : Follows (meaning_in core) (start (the_program core)) (trace_in image code) (run_word image.words code) most n
 
--- The report of n moves of a program at a level, with what is shown there. It is the same whether the netlist of the computer made of gates is
--- simplified or not.
+-- The report of n moves of a program at a level, with what is shown there. It is the same whether the netlist of the
+-- computer made of gates is simplified or not.
 abbrev pub IsReport : RunLevel → Core → (ℕ → ℕ) → ℕ → List ℕ → Type 0
 IsReport (levels.Jack show) core code n text = IsJackReport core code n show text
 IsReport (levels.Vm show) core code n text = IsVmReport core code n show text
@@ -119,8 +121,8 @@ RunPrints files source level cycles keys out =
     (core : Core) × (lines : List Line) × FolderMeans files source core × IsBuilt core × HasKeys files keys lines
     × IsReport level core (code_at lines) cycles out
 
--- The run is refused, at whatever level, and this line says why. The folder means no program, or its program has no image, or, where it has
--- one, the key script is refused.
+-- The run is refused, at whatever level, and this line says why. The folder means no program, or its program has no
+-- image, or, where it has one, the key script is refused.
 pub data RunRefuses (files : Option Files) (source : Source) (keys : Option (List ℕ)) (line : List ℕ) : Type 0 where
   without_program : FolderIsRefused files source line → RunRefuses files source keys line
   unbuilt : (core : Core) → FolderMeans files source core → BuildIsRefused core source.folder line → RunRefuses files source keys line

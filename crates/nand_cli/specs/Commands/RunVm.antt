@@ -1,4 +1,5 @@
--- The report of `run` at level vm: what the virtual machine with the code of the program shows. (The book, chapters 7 to 12.)
+-- The report of `run` at level vm: what the virtual machine with the code of the program shows. (The book, chapters 7
+-- to 12.)
 use Rattle.std.specs.Prelude.{◌≡◌, ℕ, List, [], Some, get_or}
 use Rattle.outer_world.specs.declared.point.Point.{Point}
 use Rattle.machine_io.specs.Report.{report_text}
@@ -11,10 +12,10 @@ use Rattle.jack_core.specs.declared.program.Core.{Core}
 use Rattle.vm_link.specs.declared.linked.Linked.{Linked}
 use Rattle.tower.specs.VmRun.{IsVmCodeOf, MakesMoves, VmEnds, VmFollows, vm_trace, vm_word}
 
--- The report of n moves of the virtual machine with the code of the program, each a command other than a label. It has the moves made and how they
--- end, the commits among them, and the point and the words then. Whatever the program does, that is what is reported (`reports`). And where the
--- meaning's run is tame so far, the words and the point are those of the meaning after these steps over the keys heard. The end is that of the
--- meaning (`follows`).
+-- The report of n moves of the virtual machine with the code of the program, each a command other than a label. It has
+-- the moves made and how they end, the commits among them, and the point and the words then. Whatever the program does,
+-- that is what is reported (`reports`). And where the meaning's run is tame so far, the words and the point are those
+-- of the meaning after these steps over the keys heard. The end is that of the meaning (`follows`).
 pub record IsVmReport (core : Core) (code : ℕ → ℕ) (n : ℕ) (show : Show) (text : List ℕ) : Type 0 where
   pub linked : Linked
   pub is_code : IsVmCodeOf core linked

@@ -1,5 +1,5 @@
--- The command `show`: the printed form of a source, a VM text, a Jack class or a chip, or why the source is refused. (The
--- book, chapters 1, 7, 8 and 10, and appendix 2.)
+-- The command `show`: the printed form of a source, a VM text, a Jack class or a chip, or why the source is refused.
+-- (The book, chapters 1, 7, 8 and 10, and appendix 2.)
 use Rattle.std.specs.Prelude.{◌≡◌, ℕ, true, List, [], Option}
 use Rattle.outer_world.specs.Files.{Files}
 use Rattle.outer_world.specs.Refusals.{Message}
@@ -24,7 +24,8 @@ use Rattle.vm_parser.specs.Language.{RefusesVm}
 abbrev pub SpellsVm : List ℕ → List File → Type 0
 SpellsVm text program = SpellsProgram true [] text program
 
--- The text at a path spells a source of its kind, and this is the printed form. (The name of a class is not held against that of the file.)
+-- The text at a path spells a source of its kind, and this is the printed form. (The name of a class is not held
+-- against that of the file.)
 abbrev pub ShowPrints : Option Files → List ℕ → SourceKind → List ℕ → Type 0
 ShowPrints files path kinds.Vm out = (program : List File) × SpellsAt SpellsVm files path program × (out ≡ program_text program)
 ShowPrints files path kinds.Jack out = (c : Class) × SpellsAt SpellsClass files path c × (out ≡ printed_class c)

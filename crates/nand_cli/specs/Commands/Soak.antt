@@ -1,5 +1,5 @@
--- The command `soak`: the summary of the programs that are generated from a seed, and why there is no summary. (The book has none; this one is the
--- project's own.)
+-- The command `soak`: the summary of the programs that are generated from a seed, and why there is no summary. (The
+-- book has none; this one is the project's own.)
 use Rattle.std.specs.Prelude.{◌≡◌, ◌<◌, ◌+◌, ◌^◌, ◌%◌, ◌++◌, ◌↔◌, [], ◌∷◌, ℕ, zero, suc, Bool, false, IsTrue, List, Some, if◌then◌else◌, codes, decimal}
 use Rattle.outer_world.specs.Files.{Files}
 use Rattle.simulation.specs.Trace.{steps}
@@ -44,8 +44,8 @@ pub record Shows (core : Core) (image : Image) (n bound m sum : ℕ) (agreed : B
   pub summed : sum ≡ word_sum (word_at wires n)
   pub told : IsTrue agreed ↔ Agree core image n bound wires
 
--- So it is with each behaviour of the Computer with the program's image that goes on past cycle n; and behaviours there are, over any number of
--- cycles.
+-- So it is with each behaviour of the Computer with the program's image that goes on past cycle n; and behaviours there
+-- are, over any number of cycles.
 pub record IsOutcome (core : Core) (n bound m sum : ℕ) (agreed : Bool) : Type 0 where
   pub image : Image
   pub is_image : IsImageOf core image

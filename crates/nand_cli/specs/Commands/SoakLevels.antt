@@ -1,4 +1,5 @@
--- What is seen of one program at the four levels, where no key is ever held, and whether it is the same. (The book, chapters 4, 5 and 7 to 11.)
+-- What is seen of one program at the four levels, where no key is ever held, and whether it is the same. (The book,
+-- chapters 4, 5 and 7 to 11.)
 use Rattle.std.specs.Prelude.{◌≡◌, ◌≤◌, ℕ, suc, true, List, Option, Some}
 use Rattle.outer_world.specs.declared.point.Point.{Point}
 use Rattle.simulation.specs.System.{System, IsData}
@@ -70,12 +71,14 @@ pub record IsAtVm (core : Core) (bound m : ℕ) (v : View) : Type 0 where
 
 -- ---- all four
 
--- What is seen at level gates is what the three other levels show: hack at cycle n, jack after m steps, and vm after its m-th commit.
+-- What is seen at level gates is what the three other levels show: hack at cycle n, jack after m steps, and vm after
+-- its m-th commit.
 pub record AreLevelsAlike (core : Core) (image : Image) (n bound m : ℕ) (v : View) : Type 0 where
   pub at_hack : AreAlike v (hack_view image n)
   pub at_jack : IsAtJack core m v
   pub at_vm : IsAtVm core bound m v
 
--- What this behaviour of the Computer shows at cycle n is what the other levels show, after as many steps as were counted.
+-- What this behaviour of the Computer shows at cycle n is what the other levels show, after as many steps as were
+-- counted.
 abbrev pub Agree : Core → Image → ℕ → ℕ → (List ℕ → Histories) → Type 0
 Agree core image n bound wires = AreLevelsAlike core image n bound (steps (silent_trace image wires) n) (gates_view image n wires)

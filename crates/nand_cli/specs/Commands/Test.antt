@@ -1,12 +1,19 @@
 -- The command `test`: the lines of a test script, its echoes, and how it ends. (The book, appendix 3.)
-use Rattle.std.specs.Prelude.{ℕ, Bool, List, Option, not}
+use Rattle.std.specs.Prelude.{ℕ, Bool, true, false, List, Option}
 use Rattle.outer_world.specs.Files.{Files}
+use Rattle.hdl_tree.specs.declared.ends.Memories.{Memories}
+use Rattle.hdl_tree.specs.declared.ends.Memories.TheVariants.{Blocks, Gates}
 use Rattle.tst_runner.specs.Setting.{Setting, setting_of}
 use Rattle.tst_runner.specs.Ends as script
 
+-- how the memories of chips are simulated, by the option `--gates`
+abbrev pub memories_of : Bool → Memories
+memories_of true = Gates
+memories_of false = Blocks
+
 -- the script at a path; with `gates` the memories of its chips are made of gates
 abbrev pub script_at : Option Files → List ℕ → Bool → Setting
-script_at files path gates = setting_of path files (not gates)
+script_at files path gates = setting_of path files (memories_of gates)
 
 -- All commands are done, and this stands on out and on err.
 abbrev pub TestPrints : Option Files → List ℕ → Bool → List ℕ → List ℕ → Type 0

@@ -1,5 +1,5 @@
--- The command `vm`: the assembly of the program that the VM files of a folder spell, one instruction a line, or why the folder is refused.
--- (The book, chapters 7 and 8.)
+-- The command `vm`: the assembly of the program that the VM files of a folder spell, one instruction a line, or why the
+-- folder is refused. (The book, chapters 7 and 8.)
 use Rattle.std.specs.Prelude.{◌≡◌, ◌≤◌, ◌⊎◌, ℕ, Bool, List, Option, Some, Ok, Err, length, codes}
 use Rattle.hack_isa.specs.Machine.{image_words}
 use Rattle.outer_world.specs.Files.{Files}

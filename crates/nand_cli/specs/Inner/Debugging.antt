@@ -84,8 +84,8 @@ pub record HasGone (image : Image) (code : ℕ → ℕ) (n : ℕ) (g : GateMachi
   pub moves : g.moves ≡ n
   pub followed : HasFollowed g (moves_from code 0 n)
 
--- It has gone on to the first cycle in which it is at the statement, or, where there is no such cycle, through all of this
--- many cycles.
+-- It has gone on to the first cycle in which it is at the statement, or, where there is no such cycle, through all of
+-- this many cycles.
 pub record HasComeTo (places : Places) (sub : List ℕ) (number : ℕ) (image : Image) (code : ℕ → ℕ) (cycles : ℕ) (found : Bool) (g : GateMachine) : Type 0 where
   pub n : ℕ
   pub few : n ≤ cycles
@@ -105,8 +105,8 @@ TellsMachine places sub number false g text = text ≡ none_text g.moves g.tally
 
 -- ---- the line
 
--- All is there that the line needs: the places of the folder's program, which have the statement, the keys of the script, and the computer at its
--- start.
+-- All is there that the line needs: the places of the folder's program, which have the statement, the keys of the
+-- script, and the computer at its start.
 pub record IsPreparedDebug (files : Option Files) (source : Source) (sub : List ℕ) (number : ℕ) (keys : Option (List ℕ)) (p : PreparedDebug) : Type 0 where
   pub here : FolderHasPlaces files source p.places
   pub resolved : IsResolvedCore here.2.core

@@ -1,10 +1,11 @@
 -- What the parts of a call say; the call's own contract needs none of it.
-use Rattle.std.specs.Prelude.{◌≡◌, ◌⊎◌, ℕ, Bool, List, Option, Result, Ok, Err}
+use Rattle.std.specs.Prelude.{◌≡◌, ◌⊎◌, ℕ, Bool, List, Option, Result, Ok, Err, IfSome}
 use Rattle.command_line.specs.Line.{Line}
 use Rattle.command_line.specs.declared.reader.LineError.{LineError}
 use Rattle.command_line.specs.declared.reader.LineError.TheVariants as no_line
 use Rattle.outer_world.specs.Faults.{Rose}
 use Rattle.outer_world.specs.Files.{Files, path_in}
+use Rattle.outer_world.specs.State.{ShelfState}
 use Rattle.outer_world.specs.Texts.{read_fault_line, usage_line, want_of_memory_line}
 use Rattle.outer_world.specs.Written.{Got, GotPart}
 use Rattle.outer_world.specs.declared.sink.Put.{Put}
@@ -20,7 +21,7 @@ use Rattle.tst_runner.specs.declared.script.Verdict.{Verdict}
 use Rattle.tst_runner.specs.declared.script.Verdict.TheVariants as verdicts
 use Rattle.tst_runner.specs.declared.script.ScriptError.{ScriptError}
 use Rattle.tst_runner.specs.declared.script.ScriptError.TheVariants as scripts
-use Rattle.nand_cli.specs.Answer.{CutsEcho, CutsOut, Disagrees, Misses, Prints, Refuses, Starves}
+use Rattle.nand_cli.specs.Answer.{CutsEcho, CutsOut, Disagrees, Lacks, Misses, Prints, Refuses, Starves}
 use Rattle.nand_cli.specs.JackFolder.{home_of}
 use Rattle.nand_cli.specs.declared.command.Status.{Status}
 use Rattle.nand_cli.specs.declared.command.Status.TheVariants as status
@@ -39,8 +40,13 @@ Leaves files there unfailing line o e (Err (failure.Differs difference)) = Disag
 Leaves files there unfailing line o e (Err failure.Out) = CutsOut files line o e
 Leaves files there unfailing line o e (Err failure.Echo) = CutsEcho files line o e
 
-abbrev pub Does : Option Files → (List ℕ → Bool) → Type 0 → Line → Option (List ℕ) → Option (List ℕ) → Option (List ℕ) → Option (List ℕ) → Result (Unit {0}) Failure → Type 0
-Does files there unfailing line out out' err err' result = (o : List ℕ) × (e : List ℕ) × Leaves files there unfailing line o e result × Got out out' o × Got err err' e
+-- What the shelf that was there, and what came on out and err, say of a line.
+abbrev pub Does : ShelfState → Line → Option (List ℕ) → Option (List ℕ) → Option (List ℕ) → Option (List ℕ) → Result (Unit {0}) Failure → Type 0
+Does shelf line out out' err err' result = (o : List ℕ) × (e : List ℕ) × Leaves shelf.files shelf.there shelf.unfailing line o e result × Got out out' o × Got err err' e
+
+-- What a line reads is not there, over a shelf with no call to come that is set up to fail.
+abbrev pub MissesLine : ShelfState → Line → Type 0
+MissesLine shelf line = shelf.unfailing → IfSome shelf.files (λ told. Lacks shelf.there told line)
 
 -- What doing a line says of the counts of faults of shelf, out and err.
 abbrev pub Counts : ℕ → ℕ → ℕ → ℕ → ℕ → ℕ → Result (Unit {0}) Failure → Type 0

@@ -56,7 +56,8 @@ IsPut (Err (failure.Unloaded e)) = ⊥
 IsPut (Err (failure.Differs d)) = ⊥
 IsPut (Err failure.Echo) = ⊥
 
--- what the report of a machine begins with: its moves and steps, its control point by the names of subroutines, and how its moves ended
+-- what the report of a machine begins with: its moves and steps, its control point by the names of subroutines, and how
+-- its moves ended
 abbrev pub machine_head : LevelName → List (List ℕ) → Reading Point → End → List ℕ
 machine_head level subs seen end = head_text level seen.moves seen.steps (name_of subs seen.point.sub) seen.point.number end
 
@@ -137,7 +138,8 @@ gates_head g subs end = machine_head names.Gates subs (gates_reading g) end
 abbrev pub gates_text : GateMachine → List (List ℕ) → End → Show → List ℕ
 gates_text g subs end show = machine_text names.Gates subs (gates_reading g) end show
 
--- After these lines came those of all parts in cycle n of a behaviour of the Computer with this image and these keys, and all of it was put.
+-- After these lines came those of all parts in cycle n of a behaviour of the Computer with this image and these keys,
+-- and all of it was put.
 pub record PutsParts (image : List ℕ) (keys : ℕ → ℕ) (n : ℕ) (head : List ℕ) (before now : Option (List ℕ)) (answer : Put) : Type 0 where
   pub rest : List ℕ
   pub wires : List ℕ → Histories
@@ -145,7 +147,8 @@ pub record PutsParts (image : List ℕ) (keys : ℕ → ℕ) (n : ℕ) (head : L
   pub shows : ShowsParts wires n rest
   pub puts : Puts before now (head ++ rest) answer
 
--- So it was put of the cycle that comes next, in which the keyboard holds this key, whatever the keys of the turns before.
+-- So it was put of the cycle that comes next, in which the keyboard holds this key, whatever the keys of the turns
+-- before.
 unfoldable pub PutsNets : GateMachine → ℕ → List ℕ → Option (List ℕ) → Option (List ℕ) → Put → Type 0
 PutsNets g key head before now answer =
     (turns : List Turn) → GatesFollowed g turns → (keys : ℕ → ℕ) → ((c : ℕ) → IsKey (keys c)) → HoldsKeys keys 0 turns → keys (length turns) ≡ key

@@ -1,5 +1,6 @@
 //! The command `build`: the image of a folder's program.
-ghost use Rattle.std.specs.Prelude.{◌≡◌, List, ℕ, Option};
+ghost use Rattle.std.specs.Prelude.{List, ℕ, Option};
+ghost use Rattle.outer_world.specs.State.{Keeps};
 ghost use Rattle.command_line.specs.Line.{build, of_classes, source_of};
 ghost use Rattle.nand_cli.specs.Inner.Parts.{Counts, Does};
 
@@ -17,10 +18,12 @@ pub fn answer_build<F: Shelf, O: Sink>(
     shelf: &mut F,
     out: &mut O,
 ) -> Result<(), Failure>
-    ensures does { (err : Option (List ℕ)) → Does (F.files shelf.old) (F.there shelf.old) (F.unfailing shelf.old) (of_classes (source_of source.now) build) (O.written out.old) (O.written out.new) err err result }
-    ensures counts { (err : ℕ) → Counts (F.faults shelf.old) (F.faults shelf.new) (O.faults out.old) (O.faults out.new) err err result }
-    ensures kept { F.files shelf.new ≡ F.files shelf.old }
-    ensures stays { F.there shelf.new ≡ F.there shelf.old }
+    ensures does { (err : Option (List ℕ))
+        → Does (F.state shelf.old) (of_classes (source_of source.now) build) (O.written out.old)
+        (O.written out.new) err err result }
+    ensures counts { (err : ℕ) → Counts (F.faults shelf.old) (F.faults shelf.new) (O.faults out.old)
+        (O.faults out.new) err err result }
+    ensures keeps { Keeps (F.state shelf.old) (F.state shelf.new) }
 {
     let program = load_built(alloc, source, shelf)?;
     finished(write_hack(program.image.words.as_slice(), out))

@@ -1,5 +1,6 @@
 //! The command `compile`: the VM text of a folder's classes.
-ghost use Rattle.std.specs.Prelude.{◌≡◌, ◌≤◌, IfOk, List, ℕ, Option, length, map};
+ghost use Rattle.std.specs.Prelude.{◌≤◌, IfOk, List, ℕ, Option, length, map};
+ghost use Rattle.outer_world.specs.State.{Keeps};
 ghost use Rattle.command_line.specs.Line.{compile, of_classes, source_of};
 ghost use Rattle.jack_tree.specs.Seen.{the_file};
 ghost use Rattle.tower.specs.Compiled.{AreCompiled, AreNamed};
@@ -25,7 +26,8 @@ use vm_tree::{Program, print_files};
 fn compiled(alloc: Global, source: &Source<'_>, classes: &[Class]) -> Result<Program, LoadError>
     requires few { length classes.now ≤ 256 }
     requires spelled { AreSpelled classes.now }
-    ensures makes { Loads (λ (files : List File). AreCompiled source.now.replace classes.now files) (IsMeaningless (source_of source.now) (map the_file classes.now)) ⊥ result }
+    ensures makes { Loads (λ (files : List File). AreCompiled source.now.replace classes.now files)
+        (IsMeaningless (source_of source.now) (map the_file classes.now)) ⊥ result }
     ensures named { IfOk result (AreNamed classes.now) }
 {
     // The first fault of names is the first by its place.
@@ -43,10 +45,12 @@ pub fn answer_compile<F: Shelf, O: Sink>(
     shelf: &mut F,
     out: &mut O,
 ) -> Result<(), Failure>
-    ensures does { (err : Option (List ℕ)) → Does (F.files shelf.old) (F.there shelf.old) (F.unfailing shelf.old) (of_classes (source_of source.now) compile) (O.written out.old) (O.written out.new) err err result }
-    ensures counts { (err : ℕ) → Counts (F.faults shelf.old) (F.faults shelf.new) (O.faults out.old) (O.faults out.new) err err result }
-    ensures kept { F.files shelf.new ≡ F.files shelf.old }
-    ensures stays { F.there shelf.new ≡ F.there shelf.old }
+    ensures does { (err : Option (List ℕ))
+        → Does (F.state shelf.old) (of_classes (source_of source.now) compile) (O.written out.old)
+        (O.written out.new) err err result }
+    ensures counts { (err : ℕ) → Counts (F.faults shelf.old) (F.faults shelf.new) (O.faults out.old)
+        (O.faults out.new) err err result }
+    ensures keeps { Keeps (F.state shelf.old) (F.state shelf.new) }
 {
     let classes = load_folder(alloc, &JackLanguage, source.folder, ENDING, shelf)?;
     let files = compiled(alloc, source, &classes)?;

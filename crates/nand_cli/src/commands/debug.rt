@@ -1,15 +1,15 @@
 //! The command `debug`: a program is built and its keys are read, and then the computer made of gates runs it to a statement, and the view there is
 //! put.
-ghost use Rattle.std.specs.Prelude.{◌≡◌, ◌++◌, ◌∷◌, List, ℕ, Option, option_map, IfOk, IfSome, IsSome, true, decimal};
+ghost use Rattle.std.specs.Prelude.{◌≡◌, ◌++◌, ◌∷◌, List, ℕ, Option, option_map, IfOk, IsSome, true, decimal};
 ghost use Rattle.command_line.specs.Line.{debug, of_classes, source_of};
 ghost use Rattle.jack_debug.specs.Text.{view_text};
 ghost use Rattle.jack_debug.specs.Walk.{point_in};
 ghost use Rattle.outer_world.specs.Written.{CountsPut, Puts};
+ghost use Rattle.outer_world.specs.State.{Keeps};
 ghost use Rattle.source_files.specs.Loads.{CountsLoad, Loads, Refused};
-ghost use Rattle.nand_cli.specs.Answer.{Lacks};
 ghost use Rattle.nand_cli.specs.Commands.Debug.{DebugRefuses, HasStatement, no_point, stop_text};
 ghost use Rattle.nand_cli.specs.Inner.Debugging.{CanShow, IsPreparedDebug, LacksPoint, TellsDriven, TellsMachine};
-ghost use Rattle.nand_cli.specs.Inner.Parts.{Counts, Does};
+ghost use Rattle.nand_cli.specs.Inner.Parts.{Counts, Does, MissesLine};
 ghost use Rattle.nand_cli.specs.Inner.Reports.{CountsReport, Reports};
 
 use crate::commands::run::load_keys;
@@ -101,17 +101,15 @@ pub fn prepare_debug<F: Shelf>(
     request: &DebugRun<'_>,
     shelf: &mut F,
 ) -> Result<PreparedDebug, LoadError>
-    ensures loads { Loads (IsPreparedDebug (F.files shelf.old) (source_of source.now)
+    ensures loads { Loads (IsPreparedDebug (F.state shelf.old).files (source_of source.now)
         request.now.sub.now request.now.number (option_map (λ keys. keys.now) request.now.keys))
-        (DebugRefuses (F.files shelf.old) (source_of source.now) request.now.sub.now
+        (DebugRefuses (F.state shelf.old).files (source_of source.now) request.now.sub.now
         request.now.number (option_map (λ keys. keys.now) request.now.keys))
-        (F.unfailing shelf.old → IfSome (F.files shelf.old)
-        (λ told. Lacks (F.there shelf.old) told
+        (MissesLine (F.state shelf.old)
         (of_classes (source_of source.now) (debug request.now.sub.now request.now.number
-        request.now.cycles (option_map (λ keys. keys.now) request.now.keys))))) result }
+        request.now.cycles (option_map (λ keys. keys.now) request.now.keys)))) result }
     ensures counts { CountsLoad (F.faults shelf.old) (F.faults shelf.new) result }
-    ensures kept { F.files shelf.new ≡ F.files shelf.old }
-    ensures stays { F.there shelf.new ≡ F.there shelf.old }
+    ensures keeps { Keeps (F.state shelf.old) (F.state shelf.new) }
 {
     let program = load_placed(alloc, source, shelf)?;
     check_point(alloc, source.folder, &program.places, request)?;
@@ -203,15 +201,14 @@ pub fn answer_debug<F: Shelf, O: Sink>(
     out: &mut O,
 ) -> Result<(), Failure>
     ensures does { (err : Option (List ℕ))
-        → Does (F.files shelf.old) (F.there shelf.old) (F.unfailing shelf.old)
+        → Does (F.state shelf.old)
         (of_classes (source_of source.now) (debug request.now.sub.now request.now.number
         request.now.cycles (option_map (λ keys. keys.now) request.now.keys))) (O.written out.old)
         (O.written out.new) err err result }
     ensures counts { (err : ℕ)
         → Counts (F.faults shelf.old) (F.faults shelf.new) (O.faults out.old) (O.faults out.new) err
         err result }
-    ensures kept { F.files shelf.new ≡ F.files shelf.old }
-    ensures stays { F.there shelf.new ≡ F.there shelf.old }
+    ensures keeps { Keeps (F.state shelf.old) (F.state shelf.new) }
 {
     let mut prepared = prepare_debug(alloc, source, request, shelf)?;
     prepared.show(alloc, request, out)

@@ -1,5 +1,6 @@
 //! The command `exec`: words of the memory after a run of the instruction machine.
 ghost use Rattle.std.specs.Prelude.{◌≡◌, ◌≤◌, List, ℕ, IfOk, Option, length};
+ghost use Rattle.outer_world.specs.State.{Keeps};
 ghost use Rattle.command_line.specs.Line.{exec, of_file};
 ghost use Rattle.hack_isa.specs.Machine.{machine_at, image_words};
 ghost use Rattle.hack_machine.specs.Loaded.{machine_of};
@@ -35,7 +36,8 @@ fn machine_after<K: Keyboard>(
     cycles: u32,
 ) -> Result<Hack, AllocError>
     requires { length image.now ≤ image_words }
-    ensures { IfOk result (λ hack. machine_of hack ≡ machine_at image.now (K.code keys.now) cycles) }
+    ensures { IfOk result
+        (λ hack. machine_of hack ≡ machine_at image.now (K.code keys.now) cycles) }
 {
     let mut hack = Hack::new(alloc, image)?;
     // It acts under each key, so all the moves are made.
@@ -52,10 +54,13 @@ pub fn answer_exec<F: Shelf, O: Sink>(
     shelf: &mut F,
     out: &mut O,
 ) -> Result<(), Failure>
-    ensures does { (err : Option (List ℕ)) → Does (F.files shelf.old) (F.there shelf.old) (F.unfailing shelf.old) (of_file path.now (exec request.now.cycles request.now.from request.now.to)) (O.written out.old) (O.written out.new) err err result }
-    ensures counts { (err : ℕ) → Counts (F.faults shelf.old) (F.faults shelf.new) (O.faults out.old) (O.faults out.new) err err result }
-    ensures kept { F.files shelf.new ≡ F.files shelf.old }
-    ensures stays { F.there shelf.new ≡ F.there shelf.old }
+    ensures does { (err : Option (List ℕ))
+        → Does (F.state shelf.old)
+        (of_file path.now (exec request.now.cycles request.now.from request.now.to))
+        (O.written out.old) (O.written out.new) err err result }
+    ensures counts { (err : ℕ) → Counts (F.faults shelf.old) (F.faults shelf.new) (O.faults out.old)
+        (O.faults out.new) err err result }
+    ensures keeps { Keeps (F.state shelf.old) (F.state shelf.new) }
 {
     let language = ProgramLanguage {
         form: form_of(path),

@@ -1,5 +1,6 @@
 //! The command `map`: the map of the image of a folder's program, in either form.
 ghost use Rattle.std.specs.Prelude.{◌≡◌, List, ℕ, IfOk, Option, map};
+ghost use Rattle.outer_world.specs.State.{Keeps};
 ghost use Rattle.command_line.specs.Line.{map_image, of_classes, source_of};
 ghost use Rattle.command_line.specs.declared.request.MapFormat.TheVariants.{Places, Points};
 ghost use Rattle.nand_cli.specs.Inner.Parts.{Counts, Does};
@@ -32,10 +33,12 @@ fn answer_points<F: Shelf, O: Sink>(
     shelf: &mut F,
     out: &mut O,
 ) -> Result<(), Failure>
-    ensures does { (err : Option (List ℕ)) → Does (F.files shelf.old) (F.there shelf.old) (F.unfailing shelf.old) (of_classes (source_of source.now) (map_image Points)) (O.written out.old) (O.written out.new) err err result }
-    ensures counts { (err : ℕ) → Counts (F.faults shelf.old) (F.faults shelf.new) (O.faults out.old) (O.faults out.new) err err result }
-    ensures kept { F.files shelf.new ≡ F.files shelf.old }
-    ensures stays { F.there shelf.new ≡ F.there shelf.old }
+    ensures does { (err : Option (List ℕ))
+        → Does (F.state shelf.old) (of_classes (source_of source.now) (map_image Points))
+        (O.written out.old) (O.written out.new) err err result }
+    ensures counts { (err : ℕ) → Counts (F.faults shelf.old) (F.faults shelf.new) (O.faults out.old)
+        (O.faults out.new) err err result }
+    ensures keeps { Keeps (F.state shelf.old) (F.state shelf.new) }
 {
     let program = load_built(alloc, source, shelf)?;
     let names = names(alloc, &program.core.subroutines)?;
@@ -49,10 +52,12 @@ fn answer_places<F: Shelf, O: Sink>(
     shelf: &mut F,
     out: &mut O,
 ) -> Result<(), Failure>
-    ensures does { (err : Option (List ℕ)) → Does (F.files shelf.old) (F.there shelf.old) (F.unfailing shelf.old) (of_classes (source_of source.now) (map_image Places)) (O.written out.old) (O.written out.new) err err result }
-    ensures counts { (err : ℕ) → Counts (F.faults shelf.old) (F.faults shelf.new) (O.faults out.old) (O.faults out.new) err err result }
-    ensures kept { F.files shelf.new ≡ F.files shelf.old }
-    ensures stays { F.there shelf.new ≡ F.there shelf.old }
+    ensures does { (err : Option (List ℕ))
+        → Does (F.state shelf.old) (of_classes (source_of source.now) (map_image Places))
+        (O.written out.old) (O.written out.new) err err result }
+    ensures counts { (err : ℕ) → Counts (F.faults shelf.old) (F.faults shelf.new) (O.faults out.old)
+        (O.faults out.new) err err result }
+    ensures keeps { Keeps (F.state shelf.old) (F.state shelf.new) }
 {
     let program = load_placed(alloc, source, shelf)?;
     finished(print_map(&program.places, out))
@@ -66,10 +71,12 @@ pub fn answer_map<F: Shelf, O: Sink>(
     shelf: &mut F,
     out: &mut O,
 ) -> Result<(), Failure>
-    ensures does { (err : Option (List ℕ)) → Does (F.files shelf.old) (F.there shelf.old) (F.unfailing shelf.old) (of_classes (source_of source.now) (map_image format)) (O.written out.old) (O.written out.new) err err result }
-    ensures counts { (err : ℕ) → Counts (F.faults shelf.old) (F.faults shelf.new) (O.faults out.old) (O.faults out.new) err err result }
-    ensures kept { F.files shelf.new ≡ F.files shelf.old }
-    ensures stays { F.there shelf.new ≡ F.there shelf.old }
+    ensures does { (err : Option (List ℕ))
+        → Does (F.state shelf.old) (of_classes (source_of source.now) (map_image format))
+        (O.written out.old) (O.written out.new) err err result }
+    ensures counts { (err : ℕ) → Counts (F.faults shelf.old) (F.faults shelf.new) (O.faults out.old)
+        (O.faults out.new) err err result }
+    ensures keeps { Keeps (F.state shelf.old) (F.state shelf.new) }
 {
     match format {
         MapFormat::Points => answer_points(alloc, source, shelf, out),

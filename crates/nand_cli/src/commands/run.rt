@@ -1,14 +1,14 @@
 //! The command `run`: a program is built and its keys are read, and then it is run and its report is put.
-ghost use Rattle.std.specs.Prelude.{◌≡◌, List, ℕ, Option, option_map, IfSome};
+ghost use Rattle.std.specs.Prelude.{List, ℕ, Option, option_map};
+ghost use Rattle.outer_world.specs.State.{Keeps};
 ghost use Rattle.command_line.specs.Line.{of_classes, run, source_of};
 ghost use Rattle.jack_compiler.specs.Resolved.{IsResolvedCore};
 ghost use Rattle.key_script.specs.Codes.{code_at};
 ghost use Rattle.key_script.specs.declared.keys.Keys.{Keys};
 ghost use Rattle.simulation.specs.System.{IsKey};
 ghost use Rattle.source_files.specs.Loads.{CountsLoad, Loads};
-ghost use Rattle.nand_cli.specs.Answer.{Lacks};
 ghost use Rattle.nand_cli.specs.Commands.Run.{HasKeys, IsReport, LacksKeys, RunRefuses, ScriptIsRefused, TellsAtMost};
-ghost use Rattle.nand_cli.specs.Inner.Parts.{Counts, Does};
+ghost use Rattle.nand_cli.specs.Inner.Parts.{Counts, Does, MissesLine};
 ghost use Rattle.nand_cli.specs.Inner.Prepared.{IsAtItsStart, IsPrepared, IsReady, WantsNoMemory, level_of};
 ghost use Rattle.nand_cli.specs.Inner.Reports.{CountsReport, IsPut, Reports};
 
@@ -52,14 +52,13 @@ pub fn load_keys<F: Shelf>(
     path: Option<&str>,
     shelf: &mut F,
 ) -> Result<Keys, LoadError>
-    ensures loads { Loads (λ (keys : Keys). HasKeys (F.files shelf.old)
+    ensures loads { Loads (λ (keys : Keys). HasKeys (F.state shelf.old).files
         (option_map (λ path. path.now) path.entry) keys)
-        (ScriptIsRefused (F.files shelf.old) (option_map (λ path. path.now) path.entry))
-        (F.unfailing shelf.old → LacksKeys (F.files shelf.old)
+        (ScriptIsRefused (F.state shelf.old).files (option_map (λ path. path.now) path.entry))
+        ((F.state shelf.old).unfailing → LacksKeys (F.state shelf.old).files
         (option_map (λ path. path.now) path.entry)) result }
     ensures counts { CountsLoad (F.faults shelf.old) (F.faults shelf.new) result }
-    ensures kept { F.files shelf.new ≡ F.files shelf.old }
-    ensures stays { F.there shelf.new ≡ F.there shelf.old }
+    ensures keeps { Keeps (F.state shelf.old) (F.state shelf.new) }
 {
     match path {
         None => Ok(Keys::none(alloc)),
@@ -77,17 +76,16 @@ pub fn prepare_run<F: Shelf>(
     request: &Run<'_>,
     shelf: &mut F,
 ) -> Result<PreparedRun, LoadError>
-    ensures loads { Loads (IsPrepared (F.files shelf.old) (source_of source.now) request.now.level
+    ensures loads { Loads
+        (IsPrepared (F.state shelf.old).files (source_of source.now) request.now.level
         request.now.cycles (option_map (λ keys. keys.now) request.now.keys))
-        (RunRefuses (F.files shelf.old) (source_of source.now)
+        (RunRefuses (F.state shelf.old).files (source_of source.now)
         (option_map (λ keys. keys.now) request.now.keys))
-        (F.unfailing shelf.old → IfSome (F.files shelf.old)
-        (λ told. Lacks (F.there shelf.old) told
+        (MissesLine (F.state shelf.old)
         (of_classes (source_of source.now) (run request.now.level request.now.cycles
-        (option_map (λ keys. keys.now) request.now.keys))))) result }
+        (option_map (λ keys. keys.now) request.now.keys)))) result }
     ensures counts { CountsLoad (F.faults shelf.old) (F.faults shelf.new) result }
-    ensures kept { F.files shelf.new ≡ F.files shelf.old }
-    ensures stays { F.there shelf.new ≡ F.there shelf.old }
+    ensures keeps { Keeps (F.state shelf.old) (F.state shelf.new) }
 {
     let core = load_jack(alloc, source, shelf)?;
     let image = image_of(alloc, source.folder, &core)?;
@@ -155,15 +153,14 @@ pub fn answer_run<F: Shelf, O: Sink>(
     out: &mut O,
 ) -> Result<(), Failure>
     ensures does { (err : Option (List ℕ))
-        → Does (F.files shelf.old) (F.there shelf.old) (F.unfailing shelf.old)
+        → Does (F.state shelf.old)
         (of_classes (source_of source.now) (run request.now.level request.now.cycles
         (option_map (λ keys. keys.now) request.now.keys))) (O.written out.old) (O.written out.new)
         err err result }
     ensures counts { (err : ℕ)
         → Counts (F.faults shelf.old) (F.faults shelf.new) (O.faults out.old) (O.faults out.new) err
         err result }
-    ensures kept { F.files shelf.new ≡ F.files shelf.old }
-    ensures stays { F.there shelf.new ≡ F.there shelf.old }
+    ensures keeps { Keeps (F.state shelf.old) (F.state shelf.new) }
 {
     let prepared = prepare_run(alloc, source, request, shelf)?;
     prepared.show(out)

@@ -3,6 +3,7 @@ ghost use Rattle.std.specs.Prelude.{◌≡◌, ◌+◌, ◌%◌, ◌<◌, ◌≤
 ghost use Rattle.command_line.specs.Line.{soak};
 ghost use Rattle.outer_world.specs.Held.{HaveSameSink, pending, sink_of};
 ghost use Rattle.outer_world.specs.Written.{CountsPut, Passes, Puts};
+ghost use Rattle.outer_world.specs.State.{Keeps};
 ghost use Rattle.source_files.specs.Loads.{Loads};
 ghost use Rattle.nand_cli.specs.Commands.Soak.{AreOutcomes, HasNoImage, HasOutcome, SoakRefuses, soak_files, summary_text};
 ghost use Rattle.nand_cli.specs.Inner.Parts.{Counts, Does};
@@ -32,7 +33,8 @@ pub struct Summary {
 
 // The folder of a generated program with its text.
 fn shelf_with(alloc: Global, text: Vec<u8>) -> Result<MemoryShelf, AllocError>
-    ensures { IfOk result (λ shelf. shelf ≡ record { files = soak_files text.items; fails = []; calls = 0; faults = 0 }) }
+    ensures { IfOk result (λ shelf. shelf
+        ≡ record { files = soak_files text.items; fails = []; calls = 0; faults = 0 }) }
 {
     let mut files = Vec::new(alloc);
     files.push((Name::new(alloc, "soak/Main.jack")?, text))?;
@@ -41,7 +43,8 @@ fn shelf_with(alloc: Global, text: Vec<u8>) -> Result<MemoryShelf, AllocError>
 
 // What is reported of the program that a seed has at a number, or why it has no image.
 fn outcome_of(alloc: Global, seed: u32, number: u32) -> Result<Outcome, LoadError>
-    ensures { Loads (λ (told : Outcome). HasOutcome seed number told.steps told.sum told.agrees) (HasNoImage seed number) ⊥ result }
+    ensures { Loads (λ (told : Outcome). HasOutcome seed number told.steps told.sum told.agrees)
+        (HasNoImage seed number) ⊥ result }
 {
     let text = program(alloc, seed, number)?;
     let mut shelf = shelf_with(alloc, text)?;
@@ -78,7 +81,8 @@ fn with_one(told: &Summary, one: &Outcome) -> Summary
 
 // What is reported of the first programs of a seed, this many.
 fn summary_of(alloc: Global, seed: u32, count: u32) -> Result<Summary, LoadError>
-    ensures { Loads (λ (told : Summary). AreOutcomes seed count told.agree told.steps told.sum) (SoakRefuses seed count) ⊥ result }
+    ensures { Loads (λ (told : Summary). AreOutcomes seed count told.agree told.steps told.sum)
+        (SoakRefuses seed count) ⊥ result }
 {
     let mut told = Summary {
         agree: 0,
@@ -95,7 +99,9 @@ fn summary_of(alloc: Global, seed: u32, count: u32) -> Result<Summary, LoadError
 // Puts the four lines.
 fn put_summary<S: Sink>(seed: u32, count: u32, told: &Summary, out: &mut Pieces<'_, S>) -> Put
     ensures same_sink { HaveSameSink out.old out.new }
-    ensures passes { Passes (S.written (sink_of out.old)) (pending out.old) (S.written (sink_of out.new)) (pending out.new) (summary_text seed count told.now.agree told.now.steps told.now.sum) result }
+    ensures passes { Passes (S.written (sink_of out.old))
+        (pending out.old) (S.written (sink_of out.new)) (pending out.new)
+        (summary_text seed count told.now.agree told.now.steps told.now.sum) result }
     ensures counts { CountsPut (S.faults (sink_of out.old)) (S.faults (sink_of out.new)) result }
 {
     let mut seeds = Buffer::new();
@@ -122,7 +128,8 @@ fn put_summary<S: Sink>(seed: u32, count: u32, told: &Summary, out: &mut Pieces<
 fn put_whole<S: Sink>(seed: u32, count: u32, told: &Summary, out: &mut Pieces<'_, S>) -> Put
     requires { pending out.old ≡ [] }
     ensures same_sink { HaveSameSink out.old out.new }
-    ensures put { Puts (S.written (sink_of out.old)) (S.written (sink_of out.new)) (summary_text seed count told.now.agree told.now.steps told.now.sum) result }
+    ensures put { Puts (S.written (sink_of out.old)) (S.written (sink_of out.new))
+        (summary_text seed count told.now.agree told.now.steps told.now.sum) result }
     ensures counts { CountsPut (S.faults (sink_of out.old)) (S.faults (sink_of out.new)) result }
 {
     match put_summary(seed, count, told, out) {
@@ -133,7 +140,8 @@ fn put_whole<S: Sink>(seed: u32, count: u32, told: &Summary, out: &mut Pieces<'_
 
 // The same, into a sink.
 fn show_summary<O: Sink>(seed: u32, count: u32, told: &Summary, out: &mut O) -> Put
-    ensures put { Puts (O.written out.old) (O.written out.new) (summary_text seed count told.now.agree told.now.steps told.now.sum) result }
+    ensures put { Puts (O.written out.old) (O.written out.new)
+        (summary_text seed count told.now.agree told.now.steps told.now.sum) result }
     ensures counts { CountsPut (O.faults out.old) (O.faults out.new) result }
 {
     let mut pieces = Pieces::new(out);
@@ -148,10 +156,12 @@ pub fn answer_soak<F: Shelf, O: Sink>(
     _shelf: &mut F,
     out: &mut O,
 ) -> Result<(), Failure>
-    ensures does { (err : Option (List ℕ)) → Does (F.files _shelf.old) (F.there _shelf.old) (F.unfailing _shelf.old) (soak seed count) (O.written out.old) (O.written out.new) err err result }
-    ensures counts { (err : ℕ) → Counts (F.faults _shelf.old) (F.faults _shelf.new) (O.faults out.old) (O.faults out.new) err err result }
-    ensures kept { F.files _shelf.new ≡ F.files _shelf.old }
-    ensures stays { F.there _shelf.new ≡ F.there _shelf.old }
+    ensures does { (err : Option (List ℕ))
+        → Does (F.state _shelf.old) (soak seed count)
+        (O.written out.old) (O.written out.new) err err result }
+    ensures counts { (err : ℕ) → Counts (F.faults _shelf.old) (F.faults _shelf.new)
+        (O.faults out.old) (O.faults out.new) err err result }
+    ensures keeps { Keeps (F.state _shelf.old) (F.state _shelf.new) }
 {
     let told = summary_of(alloc, seed, count)?;
     finished(show_summary(seed, count, &told, out))

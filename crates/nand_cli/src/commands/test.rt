@@ -1,9 +1,12 @@
 //! The command `test`: a test script.
 ghost use Rattle.std.specs.Prelude.{◌≡◌};
+ghost use Rattle.outer_world.specs.State.{Keeps};
 ghost use Rattle.command_line.specs.Line.{test};
 ghost use Rattle.nand_cli.specs.Inner.Parts.{Counts, Does, end_result};
+ghost use Rattle.nand_cli.specs.Commands.Test.{memories_of};
 
 use crate::failure::Failure;
+use hdl_tree::Memories;
 use outer_world::{Shelf, Sink};
 use std::alloc::Global;
 use tst_runner::{ScriptError, Verdict, run_script};
@@ -21,6 +24,17 @@ fn ended(script: Result<Verdict, ScriptError>) -> Result<(), Failure>
     }
 }
 
+// How the memories of chips are simulated, by the option `--gates`.
+fn memories_of(gates: bool) -> Memories
+    ensures { result ≡ memories_of gates }
+{
+    if gates {
+        Memories::Gates
+    } else {
+        Memories::Blocks
+    }
+}
+
 /// Does a line of `test`; the message of how it ended is not put.
 pub fn answer_test<F: Shelf, O: Sink, E: Sink>(
     alloc: Global,
@@ -31,10 +45,12 @@ pub fn answer_test<F: Shelf, O: Sink, E: Sink>(
     out: &mut O,
     err: &mut E,
 ) -> Result<(), Failure>
-    ensures does { Does (F.files shelf.old) (F.there shelf.old) (F.unfailing shelf.old) (test path.now gates simplify) (O.written out.old) (O.written out.new) (E.written err.old) (E.written err.new) result }
-    ensures counts { Counts (F.faults shelf.old) (F.faults shelf.new) (O.faults out.old) (O.faults out.new) (E.faults err.old) (E.faults err.new) result }
-    ensures kept { F.files shelf.new ≡ F.files shelf.old }
-    ensures stays { F.there shelf.new ≡ F.there shelf.old }
+    ensures does { Does (F.state shelf.old)
+        (test path.now gates simplify) (O.written out.old) (O.written out.new) (E.written err.old)
+        (E.written err.new) result }
+    ensures counts { Counts (F.faults shelf.old) (F.faults shelf.new) (O.faults out.old)
+        (O.faults out.new) (E.faults err.old) (E.faults err.new) result }
+    ensures keeps { Keeps (F.state shelf.old) (F.state shelf.new) }
 {
-    ended(run_script(alloc, path, gates, simplify, shelf, out, err))
+    ended(run_script(alloc, path, memories_of(gates), simplify, shelf, out, err))
 }

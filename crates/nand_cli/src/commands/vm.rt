@@ -1,8 +1,8 @@
 //! The command `vm`: the assembly of a folder's VM files.
 ghost use Rattle.std.specs.Prelude.{◌≡◌, ◌≤◌, All, List, ℕ, IfOk, Ok, Option, length};
+ghost use Rattle.outer_world.specs.State.{Keeps, MissesFolder};
 ghost use Rattle.command_line.specs.Line.{vm};
 ghost use Rattle.hack_isa.specs.Machine.{image_words};
-ghost use Rattle.outer_world.specs.Files.{LacksFolder};
 ghost use Rattle.source_files.specs.Loads.{CountsLoad, Loads};
 ghost use Rattle.vm_link.specs.Links.{Links};
 ghost use Rattle.vm_link.specs.Sound.{IsSound};
@@ -32,10 +32,12 @@ fn load_program<F: Shelf>(
     bare: bool,
     shelf: &mut F,
 ) -> Result<Program, LoadError>
-    ensures loads { Loads (HasProgram bare (F.files shelf.old) folder.now) (VmRefuses (F.files shelf.old) folder.now bare) (F.unfailing shelf.old → LacksFolder (F.files shelf.old) (F.there shelf.old) folder.now) result }
+    ensures loads { Loads (HasProgram bare (F.state shelf.old).files folder.now)
+        (VmRefuses (F.state shelf.old).files folder.now bare)
+        (MissesFolder (F.state shelf.old) folder.now)
+        result }
     ensures counts { CountsLoad (F.faults shelf.old) (F.faults shelf.new) result }
-    ensures kept { F.files shelf.new ≡ F.files shelf.old }
-    ensures stays { F.there shelf.new ≡ F.there shelf.old }
+    ensures keeps { Keeps (F.state shelf.old) (F.state shelf.new) }
 {
     let files = load_folder(alloc, &VmLanguage { bare }, folder, ENDING, shelf)?;
     Ok(List::of(files))
@@ -43,7 +45,8 @@ fn load_program<F: Shelf>(
 
 // The linked program.
 fn linked(alloc: Global, folder: &str, program: Program, bare: bool) -> Result<Linked, LoadError>
-    ensures links { Loads (λ (linked : Linked). Links bare program (Ok linked)) (IsNoCode bare folder.now program) ⊥ result }
+    ensures links { Loads (λ (linked : Linked). Links bare program (Ok linked))
+        (IsNoCode bare folder.now program) ⊥ result }
     ensures sound { IfOk result IsSound }
     ensures bare { IfOk result (λ linked. bare ≡ linked.bare) }
 {
@@ -55,7 +58,9 @@ fn linked(alloc: Global, folder: &str, program: Program, bare: bool) -> Result<L
 
 // The code of a program.
 fn code_of(alloc: Global, folder: &str, program: Program, bare: bool) -> Result<Coded, LoadError>
-    ensures codes { Loads (λ (coded : Coded). (linked : Linked) × Links bare program (Ok linked) × (coded.instrs ≡ image_of linked) × (length (image_of linked) ≤ image_words)) (IsNoCode bare folder.now program) ⊥ result }
+    ensures codes { Loads (λ (coded : Coded). (linked : Linked) × Links bare program (Ok linked)
+        × (coded.instrs ≡ image_of linked) × (length (image_of linked) ≤ image_words))
+        (IsNoCode bare folder.now program) ⊥ result }
     ensures plain { IfOk result (λ coded. All IsPlain coded.instrs) }
 {
     let linked = linked(alloc, folder, program, bare)?;
@@ -73,10 +78,12 @@ pub fn answer_vm<F: Shelf, O: Sink>(
     shelf: &mut F,
     out: &mut O,
 ) -> Result<(), Failure>
-    ensures does { (err : Option (List ℕ)) → Does (F.files shelf.old) (F.there shelf.old) (F.unfailing shelf.old) (vm folder.now bare) (O.written out.old) (O.written out.new) err err result }
-    ensures counts { (err : ℕ) → Counts (F.faults shelf.old) (F.faults shelf.new) (O.faults out.old) (O.faults out.new) err err result }
-    ensures kept { F.files shelf.new ≡ F.files shelf.old }
-    ensures stays { F.there shelf.new ≡ F.there shelf.old }
+    ensures does { (err : Option (List ℕ))
+        → Does (F.state shelf.old) (vm folder.now bare)
+        (O.written out.old) (O.written out.new) err err result }
+    ensures counts { (err : ℕ) → Counts (F.faults shelf.old) (F.faults shelf.new) (O.faults out.old)
+        (O.faults out.new) err err result }
+    ensures keeps { Keeps (F.state shelf.old) (F.state shelf.new) }
 {
     let program = load_program(alloc, folder, bare, shelf)?;
     let coded = code_of(alloc, folder, program, bare)?;

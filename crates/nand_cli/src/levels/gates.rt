@@ -40,7 +40,8 @@ pub fn simple_at_start(alloc: Global, core: &Core, image: Image) -> Result<GateC
     prepare_gates(alloc, image, true)
 }
 
-/// Moves the computer from its start, simplified or not, and puts its report with words of the memory. It wants no memory.
+/// Moves the computer from its start, simplified or not, and puts its report with words of the memory. It wants no
+/// memory.
 pub fn report_words<O: Sink>(
     computer: &mut GateComputer,
     core: &Core,
@@ -60,8 +61,8 @@ pub fn report_words<O: Sink>(
     report(computer, LevelName::Gates, core, keys, cycles, show, out)
 }
 
-// Puts the five lines of a report, and after them the outputs of all parts in the cycle that comes next. It begins from an empty buffer, which is
-// empty again after it.
+// Puts the five lines of a report, and after them the outputs of all parts in the cycle that comes next. It begins from
+// an empty buffer, which is empty again after it.
 fn put_nets<O: Sink>(
     computer: &mut GateComputer,
     core: &Core,

@@ -13,7 +13,8 @@ use machine_io::{LevelName, Show};
 use outer_world::Sink;
 use std::alloc::Global;
 
-/// Makes the machine of a program's meaning, moves it, and puts its report. It may want memory for any call of the program.
+/// Makes the machine of a program's meaning, moves it, and puts its report. It may want memory for any call of the
+/// program.
 pub fn report_jack<O: Sink>(
     alloc: Global,
     core: &Core,

@@ -31,7 +31,8 @@ impl Statement<'_> {
 
     // Whether an address has its point.
     fn is_at(&self, address: u16) -> bool
-        ensures { result ≡ is_statement_at self.now.places.now self.now.sub.now self.now.number (point_in self.now.places.now.ranges address) }
+        ensures { result ≡ is_statement_at self.now.places.now self.now.sub.now self.now.number
+            (point_in self.now.places.now.ranges address) }
     {
         match self.places.point(address) {
             Some(point) => self.has(point),
@@ -41,7 +42,8 @@ impl Statement<'_> {
 
     // Whether one of the map's ranges has its point.
     fn is_among(&self) -> bool
-        ensures { result ≡ is_among self.now.places.now self.now.sub.now self.now.number self.now.places.now.ranges }
+        ensures { result ≡ is_among self.now.places.now self.now.sub.now self.now.number
+            self.now.places.now.ranges }
     {
         for range in self.places.ranges.as_slice() {
             if self.has(range.point) {
@@ -53,7 +55,8 @@ impl Statement<'_> {
 
     /// Whether the map has its point.
     pub fn is_there(&self) -> bool
-        ensures { IsTrue result ↔ HasStatement self.now.places.now self.now.sub.now self.now.number }
+        ensures { IsTrue result
+            ↔ HasStatement self.now.places.now self.now.sub.now self.now.number }
     {
         self.is_among()
     }
@@ -62,7 +65,8 @@ impl Statement<'_> {
 // One cycle under its key. Answers whether a step of the program's meaning has ended in it.
 fn go(computer: &mut GateComputer, keys: &Keys) -> bool
     requires { computer.old.moves < 2 ^ 63 }
-    ensures gone { (image : Image) (n : ℕ) → HasGone image (code_at keys.now) n computer.old → HasGone image (code_at keys.now) (n + 1) computer.new }
+    ensures gone { (image : Image) (n : ℕ) → HasGone image (code_at keys.now) n computer.old
+        → HasGone image (code_at keys.now) (n + 1) computer.new }
     ensures between { result ≡ nat_lt computer.old.tally.steps computer.new.tally.steps }
 {
     let steps = computer.steps();
@@ -79,12 +83,13 @@ fn stops(between: bool, at: &Statement<'_>, computer: &GateComputer) -> bool
     between && at.is_at(computer.pc())
 }
 
-/// Moves a computer from its start, each cycle under its key, until it is at a statement and a step of the program's meaning has just ended. It makes
-/// at most this many cycles. Answers whether it is there.
+/// Moves a computer from its start, each cycle under its key, until it is at a statement and a step of the program's
+/// meaning has just ended. It makes at most this many cycles. Answers whether it is there.
 pub fn go_to(computer: &mut GateComputer, keys: &Keys, cycles: u32, at: &Statement<'_>) -> bool
     requires start { computer.old.moves ≡ 0 }
     requires stands { HasFollowed computer.old [] }
-    ensures { HasComeTo at.now.places.now at.now.sub.now at.now.number (image_in computer.old) (code_at keys.now) cycles result computer.new }
+    ensures { HasComeTo at.now.places.now at.now.sub.now at.now.number (image_in computer.old)
+        (code_at keys.now) cycles result computer.new }
 {
     let mut between = true;
     for _i in 0..cycles {

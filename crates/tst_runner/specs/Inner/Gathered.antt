@@ -14,7 +14,7 @@ use Rattle.tst_runner.specs.Gathering.{Gather, GatherFails, IsFound, Sources, fi
 
 -- the code's places, with the files
 abbrev pub sources_of : Places → Option Files → Sources
-sources_of places files = record { shipped = places.shipped.now; blocks = places.blocks; files = files; folder = places.folder.now; names = places.names.now }
+sources_of places files = record { shipped = places.shipped.now; memories = places.memories; files = files; folder = places.folder.now; names = places.names.now }
 
 -- the chip of a name is nowhere
 abbrev pub IsNowhere : Sources → List ℕ → Type 0
@@ -50,5 +50,5 @@ pub record IsNext (from : Sources) (names : List (List ℕ)) (entries : List Ent
 pub record IsMore (from : Sources) (name : List ℕ) (names : List (List ℕ)) (entries : List Entry) (names' : List (List ℕ)) (entries' : List Entry) : Type 0 where
   pub entry : Entry
   pub found : IsFound from name entry
-  pub needed : names' ≡ needed_names from.blocks entry ++ names
+  pub needed : names' ≡ needed_names from.memories entry ++ names
   pub pushed : entries' ≡ entries ++ entry ∷ []

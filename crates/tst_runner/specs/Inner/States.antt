@@ -3,6 +3,7 @@ use Rattle.std.specs.Prelude.{◌≡◌, ◌⊎◌, ◌≤◌, ℕ, suc, true, f
 use Rattle.std.specs.declared.alloc.Global.{Global}
 use Rattle.outer_world.specs.Faults.{Rose}
 use Rattle.outer_world.specs.Files.{Files, LacksFolder, file_at}
+use Rattle.outer_world.specs.State.{ShelfState}
 use Rattle.outer_world.specs.Written.{Got, GotPart}
 use Rattle.outer_world.specs.Refusals.{message}
 use Rattle.source_files.specs.Loads.{Refused, line_of}
@@ -222,3 +223,7 @@ abbrev pub LacksDevice : (List ℕ → Bool) → Setting → List ℕ → Files 
 LacksDevice there setting file told =
     ((ends_in (codes ".hdl") file ≡ true) × LacksFolder (Some told) there (folder setting))
     ⊎ ((ends_in (codes ".hdl") file ≡ false) × (file_at told (path_of setting file) ≡ None))
+
+-- That is so over a shelf with no call to come that is set up to fail.
+abbrev pub MissesDevice : ShelfState → Setting → List ℕ → Type 0
+MissesDevice shelf setting file = shelf.unfailing → IfSome shelf.files (LacksDevice shelf.there setting file)

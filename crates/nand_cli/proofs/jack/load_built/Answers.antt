@@ -6,12 +6,12 @@ use Rattle.nand_cli.proofs.jack.load_built.Goals as goal
 pub returns-in_err-core-clause-loads : goal.returns-in_err-core-clause-loads
 returns-in_err-core-clause-loads g c =
     let p = err_from_is_err_and c.from_residual.result c.from_residual.ensures.1 in
-    rw (p.1, p.2) (without_core _ (source_of c.args.source.now) (g.F.Shelf.there c.args.shelf.now) (g.F.Shelf.unfailing c.args.shelf.now) _ c.in_err-core.ensures.loads)
+    rw (p.1, p.2) (without_core _ (source_of c.args.source.now) (g.F.Shelf.state c.args.shelf.now).there (g.F.Shelf.state c.args.shelf.now).unfailing _ c.in_err-core.ensures.loads)
 
 pub returns-in_err-image-clause-loads : goal.returns-in_err-image-clause-loads
 returns-in_err-image-clause-loads g c =
     let p = err_from_is_err_and c.from_residual-in_err-image.result c.from_residual-in_err-image.ensures.1 in
-    rw (p.1, p.2) (without_computer _ (source_of c.args.source.now) (g.F.Shelf.there c.args.shelf.now) (g.F.Shelf.unfailing c.args.shelf.now) c.in_ok-core.core _ c.in_ok-core.ensures.loads c.in_err-image.ensures.loads)
+    rw (p.1, p.2) (without_computer _ (source_of c.args.source.now) (g.F.Shelf.state c.args.shelf.now).there (g.F.Shelf.state c.args.shelf.now).unfailing c.in_ok-core.core _ c.in_ok-core.ensures.loads c.in_err-image.ensures.loads)
 
 pub returns-in_err-image-clause-counts : goal.returns-in_err-image-clause-counts
 returns-in_err-image-clause-counts g c =

@@ -15,7 +15,7 @@ use Rattle.nand_cli.proofs.jack.load_jack.Goals as goal
 pub returns-in_err-classes-clause-loads : goal.returns-in_err-classes-clause-loads
 returns-in_err-classes-clause-loads g c =
     let p = err_from_is_err_and c.from_residual.result c.from_residual.ensures.1 in
-    rw (p.1, p.2) (without_classes _ (source_of c.args.source.now) (g.F.Shelf.there c.args.shelf.now) (g.F.Shelf.unfailing c.args.shelf.now) _ c.in_err-classes.ensures.loads)
+    rw (p.1, p.2) (without_classes _ (source_of c.args.source.now) (g.F.Shelf.state c.args.shelf.now).there (g.F.Shelf.state c.args.shelf.now).unfailing _ c.in_err-classes.ensures.loads)
 
 pub program_of-requires-clause-few : goal.program_of-requires-clause-few
 program_of-requires-clause-few g c =
@@ -27,7 +27,7 @@ program_of-requires-clause-spelled g c = subst AreSpelled (sym c.deref.ensures.v
 pub returns-clause-loads : goal.returns-clause-loads
 returns-clause-loads g c =
     let P : List Class → Type 0 = λ classes. Loads (λ (core : Core). Means c.args.source.now.replace classes (Ok core)) (IsMeaningless (source_of c.args.source.now) (map the_file classes)) ⊥ c.program_of.result in
-    meant _ (source_of c.args.source.now) (g.F.Shelf.there c.args.shelf.now) (g.F.Shelf.unfailing c.args.shelf.now) c.in_ok-classes.classes.items c.program_of.result c.in_ok-classes.ensures.loads (subst P c.deref.ensures.value c.program_of.ensures.makes)
+    meant _ (source_of c.args.source.now) (g.F.Shelf.state c.args.shelf.now).there (g.F.Shelf.state c.args.shelf.now).unfailing c.in_ok-classes.classes.items c.program_of.result c.in_ok-classes.ensures.loads (subst P c.deref.ensures.value c.program_of.ensures.makes)
 
 pub returns-clause-counts : goal.returns-clause-counts
 returns-clause-counts g c = program_counts (source_of c.args.source.now) c.deref.result.now c.program_of.result _ _ c.program_of.ensures.makes c.in_ok-classes.ensures.counts

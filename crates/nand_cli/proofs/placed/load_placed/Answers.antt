@@ -10,7 +10,7 @@ use Rattle.nand_cli.proofs.placed.load_placed.Goals as goal
 pub returns-in_err-own-clause-loads : goal.returns-in_err-own-clause-loads
 returns-in_err-own-clause-loads g c =
     let p = err_from_is_err_and c.from_residual.result c.from_residual.ensures.1 in
-    rw (p.1, p.2) (without_trees _ (source_of c.args.source.now) (g.F.Shelf.there c.args.shelf.now) (g.F.Shelf.unfailing c.args.shelf.now) _ c.in_err-own.ensures.loads)
+    rw (p.1, p.2) (without_trees _ (source_of c.args.source.now) (g.F.Shelf.state c.args.shelf.now).there (g.F.Shelf.state c.args.shelf.now).unfailing _ c.in_err-own.ensures.loads)
 
 pub placed_of-requires-clause-few : goal.placed_of-requires-clause-few
 placed_of-requires-clause-few g c =
@@ -22,7 +22,7 @@ placed_of-requires-clause-spelled g c = subst AreSpelled (sym c.deref.ensures.va
 pub returns-clause-loads : goal.returns-clause-loads
 returns-clause-loads g c =
     let P : List Class → Type 0 = λ classes. LoadsPlaced classes (source_of c.args.source.now) c.placed_of.result in
-    folder_placed _ (source_of c.args.source.now) (g.F.Shelf.there c.args.shelf.now) (g.F.Shelf.unfailing c.args.shelf.now) c.in_ok-own.own.items c.placed_of.result c.in_ok-own.ensures.loads (subst P c.deref.ensures.value c.placed_of.ensures)
+    folder_placed _ (source_of c.args.source.now) (g.F.Shelf.state c.args.shelf.now).there (g.F.Shelf.state c.args.shelf.now).unfailing c.in_ok-own.own.items c.placed_of.result c.in_ok-own.ensures.loads (subst P c.deref.ensures.value c.placed_of.ensures)
 
 pub returns-clause-counts : goal.returns-clause-counts
 returns-clause-counts g c = placed_counts c.deref.result.now (source_of c.args.source.now) c.placed_of.result _ _ c.placed_of.ensures c.in_ok-own.ensures.counts

@@ -1,4 +1,4 @@
-use Rattle.std.proofs.Common.{◌++◌, ◌∷◌, [], ℕ, List, None, take, sym, subst, inr}
+use Rattle.std.proofs.Common.{◌++◌, ◌∷◌, [], ℕ, List, None, take, refl, sym, subst, inr}
 use Rattle.script_device.specs.Devices.{Means}
 use Rattle.script_device.specs.Running.{Finds, probe_source}
 use Rattle.script_parser.specs.declared.tree.Item.{Item}
@@ -22,10 +22,10 @@ loop-item-preserved c = λ d s.
     let i = c.loop-item.item-index in
     let text = c.as_slice.result.now in
     let probe = c.in-Some.probe in
-    let column : Column = record { layout = c.layout_of.result; probe = probe } in
+    let column : Column = record { layout = item.layout; probe = probe } in
     let P : List ℕ → Type 0 = λ t. Means d t (probe_source probe) in
     let Q : List Column → Type 0 = λ columns. AreColumns d (take i items ++ item ∷ []) columns in
     let R : List Item → Type 0 = λ its. AreColumns d its c.push.new.self.items in
     let means = subst P c.as_slice.ensures (subst (Finds d text) c.in-Some.is (c.in_ok-probe.ensures d s)) in
-    let more = column_behind d (take i items) c.loop-item.columns.items item column (c.loop-item.invariant d s) (c.layout_of.ensures, means) in
+    let more = column_behind d (take i items) c.loop-item.columns.items item column (c.loop-item.invariant d s) (refl, means) in
     subst R (next items i item c.loop-item-test.true c.item-item.is) (subst Q (sym {A = List Column} c.in_ok-push.ensures.items) more)

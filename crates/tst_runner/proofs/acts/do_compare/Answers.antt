@@ -15,23 +15,23 @@ use Rattle.tst_runner.proofs.acts.do_compare.Goals as goal
 pub returns-in_err-text-clause-does : goal.returns-in_err-text-clause-does
 returns-in_err-text-clause-does g c s h =
     let p = err_from_is_err_and c.from_residual.result c.from_residual.ensures.1 in
-    let files = g.F.Shelf.files c.args.shelf.now in
-    let setting = setting_of c.args.script.path.now files c.args.script.blocks in
-    let unfailing = g.F.Shelf.unfailing c.args.shelf.now in
+    let files = (g.F.Shelf.state c.args.shelf.now).files in
+    let setting = setting_of c.args.script.path.now files c.args.script.memories in
+    let unfailing = (g.F.Shelf.state c.args.shelf.now).unfailing in
     let name = c.args.file.now.text in
     let Q : List ℕ → Type 0 = λ file. Loads (λ (text : Vec ℕ Global). IsCompared setting file text.items) (IsTooLong setting file) (unfailing → LacksFile files (path_of setting file)) (Err c.in_err-text.field-0.0) in
     rw (p.1, p.2) (Quietly-load (λ (text : Vec ℕ Global). IsCompared setting name text.items) (IsTooLong setting name) (unfailing → LacksFile files (path_of setting name)) setting
-    (Misses setting (g.F.Shelf.there c.args.shelf.now) unfailing s (acts.CompareTo c.args.file.now)) s (acts.CompareTo c.args.file.now) c.args.state.now c.in_err-text.field-0.0 (λ line k. k) (λ m. (tt, m))
-    (subst Q c.as_slice.ensures (c.in_err-text.ensures.loads c.args.script.blocks)))
+    (Misses setting (g.F.Shelf.state c.args.shelf.now).there unfailing s (acts.CompareTo c.args.file.now)) s (acts.CompareTo c.args.file.now) c.args.state.now c.in_err-text.field-0.0 (λ line k. k) (λ m. (tt, m))
+    (subst Q c.as_slice.ensures (c.in_err-text.ensures.loads c.args.script.memories)))
 
 pub returns-clause-does : goal.returns-clause-does
 returns-clause-does g c s h =
-    let files = g.F.Shelf.files c.args.shelf.now in
-    let setting = setting_of c.args.script.path.now files c.args.script.blocks in
-    let unfailing = g.F.Shelf.unfailing c.args.shelf.now in
+    let files = (g.F.Shelf.state c.args.shelf.now).files in
+    let setting = setting_of c.args.script.path.now files c.args.script.memories in
+    let unfailing = (g.F.Shelf.state c.args.shelf.now).unfailing in
     let text = c.in_ok-text.text.items in
     let Q : List ℕ → Type 0 = λ file. IsCompared setting file text in
-    let l = subst Q c.as_slice.ensures (c.in_ok-text.ensures.loads c.args.script.blocks) in
+    let l = subst Q c.as_slice.ensures (c.in_ok-text.ensures.loads c.args.script.memories) in
     let at = c.past_lines-at.result in
     let W : List ℕ → Type 0 = λ t. at ≤ length t in
     let R : List ℕ → Type 0 = λ t. lines_of (drop at t) ≡ drop c.args.state.now.lines (lines_of t) in (

@@ -7,7 +7,7 @@ use Rattle.tst_runner.proofs.acts.do_load.Goals as goal
 
 pub returns-clause-does : goal.returns-clause-does
 returns-clause-does g c s h =
-    let setting = setting_of c.args.script.path.now (g.F.Shelf.files c.args.shelf.now) c.args.script.blocks in
+    let setting = setting_of c.args.script.path.now (g.F.Shelf.state c.args.shelf.now).files c.args.script.memories in
     let Q : List ℕ → Type 0 = λ file. StandsForLoaded setting file c.in_ok-state.field-0 in
     let l = subst Q c.as_slice.ensures c.in_ok-state.ensures.loads in (
       record s { device = l.0; items = [] },

@@ -14,27 +14,27 @@ use Rattle.tst_runner.proofs.acts.do_rom.Goals as goal
 pub returns-in_err-image-clause-does : goal.returns-in_err-image-clause-does
 returns-in_err-image-clause-does g c s h =
     let p = err_from_is_err_and c.from_residual.result c.from_residual.ensures.1 in
-    let files = g.F.Shelf.files c.args.shelf.now in
-    let setting = setting_of c.args.script.path.now files c.args.script.blocks in
-    let unfailing = g.F.Shelf.unfailing c.args.shelf.now in
+    let files = (g.F.Shelf.state c.args.shelf.now).files in
+    let setting = setting_of c.args.script.path.now files c.args.script.memories in
+    let unfailing = (g.F.Shelf.state c.args.shelf.now).unfailing in
     let name = c.args.file.now.text in
     let act = acts.LoadRom c.args.word.now c.args.file.now in
     let M : Bool → Type 0 = λ b. TellsMemory s.device b in
     let rom = subst M c.if-not-has_rom.false (c.has_rom.ensures s.device h.device) in
     let Q : List ℕ → Type 0 = λ file. Loads (λ (words : Vec ℕ Global). IsImage setting file words.items) (IsNoImage setting file) (unfailing → LacksFile files (path_of setting file)) (Err c.in_err-image.field-0.0) in
     rw (p.1, p.2) (Quietly-load (λ (words : Vec ℕ Global). IsImage setting name words.items) (IsNoImage setting name) (unfailing → LacksFile files (path_of setting name)) setting
-    (Misses setting (g.F.Shelf.there c.args.shelf.now) unfailing s act) s act c.args.state.now c.in_err-image.field-0.0 (λ line k. inr (rom, k)) (λ m. (rom, m))
-    (subst Q c.as_slice.ensures (c.in_err-image.ensures.loads c.args.script.blocks)))
+    (Misses setting (g.F.Shelf.state c.args.shelf.now).there unfailing s act) s act c.args.state.now c.in_err-image.field-0.0 (λ line k. inr (rom, k)) (λ m. (rom, m))
+    (subst Q c.as_slice.ensures (c.in_err-image.ensures.loads c.args.script.memories)))
 
 pub returns-clause-does : goal.returns-clause-does
 returns-clause-does g c s h =
-    let files = g.F.Shelf.files c.args.shelf.now in
-    let setting = setting_of c.args.script.path.now files c.args.script.blocks in
-    let unfailing = g.F.Shelf.unfailing c.args.shelf.now in
+    let files = (g.F.Shelf.state c.args.shelf.now).files in
+    let setting = setting_of c.args.script.path.now files c.args.script.memories in
+    let unfailing = (g.F.Shelf.state c.args.shelf.now).unfailing in
     let image = c.in_ok-image.image.items in
     let M : Bool → Type 0 = λ b. TellsMemory s.device b in
     let rom = subst M c.if-not-has_rom.false (c.has_rom.ensures s.device h.device) in
     let Q : List ℕ → Type 0 = λ file. IsImage setting file image in
     let T : List ℕ → Type 0 = λ words. TellsImage s.device c.load_rom.new.self words (Ok c.in_ok-load_rom.field-0) in
     Quietly-image setting ⊥ s c.args.word.now c.args.file.now c.args.state.now c.load_rom.new.self image c.in_ok-load_rom.field-0 rom
-    (subst Q c.as_slice.ensures (c.in_ok-image.ensures.loads c.args.script.blocks)) h (subst T c.deref.ensures.value (c.in_ok-load_rom.ensures.stands s.device h.device))
+    (subst Q c.as_slice.ensures (c.in_ok-image.ensures.loads c.args.script.memories)) h (subst T c.deref.ensures.value (c.in_ok-load_rom.ensures.stands s.device h.device))

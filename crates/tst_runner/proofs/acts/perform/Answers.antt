@@ -10,9 +10,9 @@ use Rattle.tst_runner.proofs.acts.perform.Goals as goal
 
 pub returns-in-Step-clause-does : goal.returns-in-Step-clause-does
 returns-in-Step-clause-does g c w e s h stays =
-    let setting = setting_of c.args.script.path.now (g.F.Shelf.files c.args.shelf.now) c.args.script.blocks in
-    let there = g.F.Shelf.there c.args.shelf.now in
-    let unfailing = g.F.Shelf.unfailing c.args.shelf.now in
+    let setting = setting_of c.args.script.path.now (g.F.Shelf.state c.args.shelf.now).files c.args.script.memories in
+    let there = (g.F.Shelf.state c.args.shelf.now).there in
+    let unfailing = (g.F.Shelf.state c.args.shelf.now).unfailing in
     let err = g.E.Sink.written c.args.err.now in
     let put = g.O.Sink.written (sink_of c.do_step.new.out) in
     let left = pending c.do_step.new.out in
@@ -24,9 +24,9 @@ returns-in-Step-clause-counts g c = c.do_step.ensures.counts (g.F.Shelf.faults c
 
 pub returns-in-Load-clause-does : goal.returns-in-Load-clause-does
 returns-in-Load-clause-does g c w e s h stays =
-    let setting = setting_of c.args.script.path.now (g.F.Shelf.files c.args.shelf.now) c.args.script.blocks in
-    let there = g.F.Shelf.there c.args.shelf.now in
-    let unfailing = g.F.Shelf.unfailing c.args.shelf.now in
+    let setting = setting_of c.args.script.path.now (g.F.Shelf.state c.args.shelf.now).files c.args.script.memories in
+    let there = (g.F.Shelf.state c.args.shelf.now).there in
+    let unfailing = (g.F.Shelf.state c.args.shelf.now).unfailing in
     let err = g.E.Sink.written c.args.err.now in
     let put = g.O.Sink.written (sink_of c.args.out.now) in
     let left = pending c.args.out.now in
@@ -39,9 +39,9 @@ returns-in-Load-clause-counts g c = c.do_load.ensures.counts (g.O.Sink.faults (s
 
 pub returns-in-CompareTo-clause-does : goal.returns-in-CompareTo-clause-does
 returns-in-CompareTo-clause-does g c w e s h stays =
-    let setting = setting_of c.args.script.path.now (g.F.Shelf.files c.args.shelf.now) c.args.script.blocks in
-    let there = g.F.Shelf.there c.args.shelf.now in
-    let unfailing = g.F.Shelf.unfailing c.args.shelf.now in
+    let setting = setting_of c.args.script.path.now (g.F.Shelf.state c.args.shelf.now).files c.args.script.memories in
+    let there = (g.F.Shelf.state c.args.shelf.now).there in
+    let unfailing = (g.F.Shelf.state c.args.shelf.now).unfailing in
     let err = g.E.Sink.written c.args.err.now in
     let put = g.O.Sink.written (sink_of c.args.out.now) in
     let left = pending c.args.out.now in
@@ -54,9 +54,9 @@ returns-in-CompareTo-clause-counts g c = c.do_compare.ensures.counts (g.O.Sink.f
 
 pub returns-in-LoadRom-clause-does : goal.returns-in-LoadRom-clause-does
 returns-in-LoadRom-clause-does g c w e s h stays =
-    let setting = setting_of c.args.script.path.now (g.F.Shelf.files c.args.shelf.now) c.args.script.blocks in
-    let there = g.F.Shelf.there c.args.shelf.now in
-    let unfailing = g.F.Shelf.unfailing c.args.shelf.now in
+    let setting = setting_of c.args.script.path.now (g.F.Shelf.state c.args.shelf.now).files c.args.script.memories in
+    let there = (g.F.Shelf.state c.args.shelf.now).there in
+    let unfailing = (g.F.Shelf.state c.args.shelf.now).unfailing in
     let err = g.E.Sink.written c.args.err.now in
     let put = g.O.Sink.written (sink_of c.args.out.now) in
     let left = pending c.args.out.now in
@@ -69,9 +69,9 @@ returns-in-LoadRom-clause-counts g c = c.do_rom.ensures.counts (g.O.Sink.faults 
 
 pub returns-in-OutputList-clause-does : goal.returns-in-OutputList-clause-does
 returns-in-OutputList-clause-does g c w e s h stays =
-    let setting = setting_of c.args.script.path.now (g.F.Shelf.files c.args.shelf.now) c.args.script.blocks in
-    let there = g.F.Shelf.there c.args.shelf.now in
-    let unfailing = g.F.Shelf.unfailing c.args.shelf.now in
+    let setting = setting_of c.args.script.path.now (g.F.Shelf.state c.args.shelf.now).files c.args.script.memories in
+    let there = (g.F.Shelf.state c.args.shelf.now).there in
+    let unfailing = (g.F.Shelf.state c.args.shelf.now).unfailing in
     let err = g.E.Sink.written c.args.err.now in
     let put = g.O.Sink.written (sink_of c.do_list.new.out) in
     let left = pending c.do_list.new.out in
@@ -84,9 +84,9 @@ returns-in-OutputList-clause-counts g c = c.do_list.ensures.counts (g.F.Shelf.fa
 
 pub returns-in-Set-clause-does : goal.returns-in-Set-clause-does
 returns-in-Set-clause-does g c w e s h stays =
-    let setting = setting_of c.args.script.path.now (g.F.Shelf.files c.args.shelf.now) c.args.script.blocks in
-    let there = g.F.Shelf.there c.args.shelf.now in
-    let unfailing = g.F.Shelf.unfailing c.args.shelf.now in
+    let setting = setting_of c.args.script.path.now (g.F.Shelf.state c.args.shelf.now).files c.args.script.memories in
+    let there = (g.F.Shelf.state c.args.shelf.now).there in
+    let unfailing = (g.F.Shelf.state c.args.shelf.now).unfailing in
     let err = g.E.Sink.written c.args.err.now in
     let put = g.O.Sink.written (sink_of c.args.out.now) in
     let left = pending c.args.out.now in
@@ -96,16 +96,16 @@ returns-in-Set-clause-does g c w e s h stays =
 
 pub returns-in-Set-clause-counts : goal.returns-in-Set-clause-counts
 returns-in-Set-clause-counts g c =
-    let setting = setting_of c.args.script.path.now (g.F.Shelf.files c.args.shelf.now) c.args.script.blocks in
+    let setting = setting_of c.args.script.path.now (g.F.Shelf.state c.args.shelf.now).files c.args.script.memories in
     let r = c.requires.2 in
     CountsStop-quietly setting r.0 (acts.Set c.in-Set.variable c.in-Set.word) c.do_set.new.state c.do_set.result (g.F.Shelf.faults c.args.shelf.now) (g.O.Sink.faults (sink_of c.args.out.now)) (g.E.Sink.faults c.args.err.now)
     (c.do_set.ensures setting r.0 refl r.1)
 
 pub returns-in-Echo-clause-does : goal.returns-in-Echo-clause-does
 returns-in-Echo-clause-does g c w e s h stays =
-    let setting = setting_of c.args.script.path.now (g.F.Shelf.files c.args.shelf.now) c.args.script.blocks in
-    let there = g.F.Shelf.there c.args.shelf.now in
-    let unfailing = g.F.Shelf.unfailing c.args.shelf.now in
+    let setting = setting_of c.args.script.path.now (g.F.Shelf.state c.args.shelf.now).files c.args.script.memories in
+    let there = (g.F.Shelf.state c.args.shelf.now).there in
+    let unfailing = (g.F.Shelf.state c.args.shelf.now).unfailing in
     let err = g.E.Sink.written c.args.err.now in
     let err' = g.E.Sink.written c.do_echo.new.err in
     let put = g.O.Sink.written (sink_of c.args.out.now) in

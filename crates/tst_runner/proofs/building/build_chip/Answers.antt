@@ -12,26 +12,26 @@ found_is : (entries own : List Entry) (name text : List ℕ) (top : Entry) → o
 found_is entries own name text top e f h = ap (λ es. find_entry es name) (sym e) ∙ ap (find_entry own) (sym f) ∙ h
 
 pub elaborate-requires-clause-ends : goal.elaborate-requires-clause-ends
-elaborate-requires-clause-ends c = libraries.ends c.args.library.now.entries c.args.blocks c.requires.sound.library
+elaborate-requires-clause-ends c = libraries.ends c.args.library.now.entries c.args.memories c.requires.sound.library
 
 pub evaluated-requires-clause-fits : goal.evaluated-requires-clause-fits
 evaluated-requires-clause-fits c = λ d is among.
     let entries = c.args.library.now.entries in
     let top = c.in-Some.top.now in
     let found = found_is c.args.library.now.entries c.as_slice.result.now c.args.name.now c.as_bytes.result.now top c.as_slice.ensures c.as_bytes.ensures c.in-Some.ensures in
-    fits (chips_in entries c.args.blocks) entries c.requires.sound.narrow c.args.name.now top found c.in-Ok.e (c.in-Ok.ensures.elaborated top found) d is among
+    fits (chips_in entries c.args.memories) entries c.requires.sound.narrow c.args.name.now top found c.in-Ok.e (c.in-Ok.ensures.elaborated top found) d is among
 
 pub evaluated-requires-clause-few : goal.evaluated-requires-clause-few
 evaluated-requires-clause-few c =
     let entries = c.args.library.now.entries in
     let top = c.in-Some.top.now in
     let found = found_is c.args.library.now.entries c.as_slice.result.now c.args.name.now c.as_bytes.result.now top c.as_slice.ensures c.as_bytes.ensures c.in-Some.ensures in
-    few_nodes (chips_in entries c.args.blocks) top c.in-Ok.e (c.in-Ok.ensures.fine top found) (c.in-Ok.ensures.elaborated top found)
+    few_nodes (chips_in entries c.args.memories) top c.in-Ok.e (c.in-Ok.ensures.fine top found) (c.in-Ok.ensures.elaborated top found)
 
 pub returns-in_ok-evaluated-in-Ok-clause-loads : goal.returns-in_ok-evaluated-in-Ok-clause-loads
 returns-in_ok-evaluated-in-Ok-clause-loads c = λ files.
     let entries = c.args.library.now.entries in
-    let chips = chips_in entries c.args.blocks in
+    let chips = chips_in entries c.args.memories in
     let name = c.args.name.now in
     let top = c.in-Some.top.now in
     let e = c.in-Ok.e in

@@ -22,7 +22,7 @@ run_command-loop-preserved g t c =
       ran = ran_as (times c.loop.counter body ++ body) (times (c.loop.counter + 1) body) (times_next c.loop.counter body)
           (ran_then (times c.loop.counter body) body c.loop.invariant.ran
           (ran_as (acts_in c.deref.result.now) body (ap acts_in c.deref.ensures.value)
-          (ran_of (g.F.Shelf.files now.shelf) (g.F.Shelf.there now.shelf) (g.F.Shelf.unfailing now.shelf) (g.O.Sink.written now.out.sink.now) (pending now.out) (g.E.Sink.written now.err) (acts_in c.deref.result.now) now.state (Ok tt) done.does done.kept done.stays done.keeps)));
+          (ran_of (g.F.Shelf.state now.shelf).files (g.F.Shelf.state now.shelf).there (g.F.Shelf.state now.shelf).unfailing (g.O.Sink.written now.out.sink.now) (pending now.out) (g.E.Sink.written now.err) (acts_in c.deref.result.now) now.state (Ok tt) done.does done.keeps)));
       counts = counts_then _ _ _ _ _ _ _ _ _ (Ok tt) c.loop.invariant.counts done.counts;
       same_sink = done.same_sink ∙ c.loop.invariant.same_sink;
     }
@@ -43,21 +43,19 @@ run_command-returns-in_err-run_commands-in-Repeat g t c =
     (ran_cut (times (n - (i + 1)) body)
     (ran_then (times i body) body c.loop.invariant.ran
     (ran_as (acts_in c.deref.result.now) body (ap acts_in c.deref.ensures.value)
-    (ran_of (g.F.Shelf.files now.shelf) (g.F.Shelf.there now.shelf) (g.F.Shelf.unfailing now.shelf) (g.O.Sink.written now.out.sink.now) (pending now.out) (g.E.Sink.written now.err) (acts_in c.deref.result.now) now.state (Err stop) done.does done.kept done.stays done.keeps))))) in
+    (ran_of (g.F.Shelf.state now.shelf).files (g.F.Shelf.state now.shelf).there (g.F.Shelf.state now.shelf).unfailing (g.O.Sink.written now.out.sink.now) (pending now.out) (g.E.Sink.written now.err) (acts_in c.deref.result.now) now.state (Err stop) done.does done.keeps))))) in
     record {
       does = ran.does;
       counts = subst (λ (r : Result (Unit {0}) Stop). CountsStop (g.F.Shelf.faults c.args.shelf.now) (g.F.Shelf.faults now.shelf) (g.O.Sink.faults c.args.out.now.sink.now) (g.O.Sink.faults now.out.sink.now) (g.E.Sink.faults c.args.err.now) (g.E.Sink.faults now.err) r) (sym is) (counts_then _ _ _ _ _ _ _ _ _ (Err stop) c.loop.invariant.counts done.counts);
       same_sink = done.same_sink ∙ c.loop.invariant.same_sink;
-      kept = ran.kept;
-      stays = ran.stays;
       keeps = ran.keeps;
     }
 
 pub run_command-returns-in-Act-clause-does : goal.run_command-returns-in-Act-clause-does
 run_command-returns-in-Act-clause-does g t c = λ w e s at stands.
-    let setting = setting_of c.args.script.path.now (g.F.Shelf.files c.args.shelf.now) c.args.script.blocks in
-    let there = g.F.Shelf.there c.args.shelf.now in
-    let unfailing = g.F.Shelf.unfailing c.args.shelf.now in
+    let setting = setting_of c.args.script.path.now (g.F.Shelf.state c.args.shelf.now).files c.args.script.memories in
+    let there = (g.F.Shelf.state c.args.shelf.now).there in
+    let unfailing = (g.F.Shelf.state c.args.shelf.now).unfailing in
     let now = c.perform.new in
     subst (λ (x : commands.Command). PerformsAll setting there unfailing w (g.O.Sink.written now.out.sink.now) e (g.E.Sink.written now.err) (pending now.out) s (acts_by x) now.state c.perform.result) (sym c.in-Act.is)
     (act_all setting there unfailing w (g.O.Sink.written now.out.sink.now) e (g.E.Sink.written now.err) (pending now.out) s _ now.state c.perform.result (c.perform.ensures.does w e s at stands))
@@ -68,7 +66,7 @@ run_command-returns-after-loop g t c =
     let n = c.in-Repeat.count in
     let over : c.loop.counter ≡ n = omega (arith, c.loop-test.false, c.loop.auto.counter-end) in
     let ran = ran_as (times c.loop.counter body) (acts_by c.args.command.now) (ap (λ (k : ℕ). times k body) over ∙ acts_repeated n c.in-Repeat.body ∙ ap acts_by (sym c.in-Repeat.is)) c.loop.invariant.ran in
-    record { does = ran.does; counts = c.loop.invariant.counts; same_sink = c.loop.invariant.same_sink; kept = ran.kept; stays = ran.stays; keeps = ran.keeps }
+    record { does = ran.does; counts = c.loop.invariant.counts; same_sink = c.loop.invariant.same_sink; keeps = ran.keeps }
 
 pub run_commands-loop-command-init : goal.run_commands-loop-command-init
 run_commands-loop-command-init g t c = record { ran = ran_nothing; counts = (refl, refl, refl); same_sink = refl }
@@ -83,7 +81,7 @@ run_commands-loop-command-preserved g t c =
     record {
       ran = ran_as (acts_in (take i all) ++ acts_by one) (acts_in (take (i + 1) all)) (acts_next all i one c.loop-command-test.true c.command-item.is)
           (ran_then (acts_in (take i all)) (acts_by one) c.loop-command.invariant.ran
-          (ran_of (g.F.Shelf.files now.shelf) (g.F.Shelf.there now.shelf) (g.F.Shelf.unfailing now.shelf) (g.O.Sink.written now.out.sink.now) (pending now.out) (g.E.Sink.written now.err) (acts_by one) now.state (Ok tt) done.does done.kept done.stays done.keeps));
+          (ran_of (g.F.Shelf.state now.shelf).files (g.F.Shelf.state now.shelf).there (g.F.Shelf.state now.shelf).unfailing (g.O.Sink.written now.out.sink.now) (pending now.out) (g.E.Sink.written now.err) (acts_by one) now.state (Ok tt) done.does done.keeps));
       counts = counts_then _ _ _ _ _ _ _ _ _ (Ok tt) c.loop-command.invariant.counts done.counts;
       same_sink = done.same_sink ∙ c.loop-command.invariant.same_sink;
     }
@@ -102,13 +100,11 @@ run_commands-returns-in_err-run_command g t c =
     (ran_as ((acts_in (take i all) ++ acts_by one) ++ acts_in (drop (i + 1) all)) (acts_in all) (acts_at all i one c.loop-command-test.true c.command-item.is)
     (ran_cut (acts_in (drop (i + 1) all))
     (ran_then (acts_in (take i all)) (acts_by one) c.loop-command.invariant.ran
-    (ran_of (g.F.Shelf.files now.shelf) (g.F.Shelf.there now.shelf) (g.F.Shelf.unfailing now.shelf) (g.O.Sink.written now.out.sink.now) (pending now.out) (g.E.Sink.written now.err) (acts_by one) now.state (Err stop) done.does done.kept done.stays done.keeps)))) in
+    (ran_of (g.F.Shelf.state now.shelf).files (g.F.Shelf.state now.shelf).there (g.F.Shelf.state now.shelf).unfailing (g.O.Sink.written now.out.sink.now) (pending now.out) (g.E.Sink.written now.err) (acts_by one) now.state (Err stop) done.does done.keeps)))) in
     record {
       does = ran.does;
       counts = subst (λ (r : Result (Unit {0}) Stop). CountsStop (g.F.Shelf.faults c.args.shelf.now) (g.F.Shelf.faults now.shelf) (g.O.Sink.faults c.args.out.now.sink.now) (g.O.Sink.faults now.out.sink.now) (g.E.Sink.faults c.args.err.now) (g.E.Sink.faults now.err) r) (sym is) (counts_then _ _ _ _ _ _ _ _ _ (Err stop) c.loop-command.invariant.counts done.counts);
       same_sink = done.same_sink ∙ c.loop-command.invariant.same_sink;
-      kept = ran.kept;
-      stays = ran.stays;
       keeps = ran.keeps;
     }
 
@@ -116,4 +112,4 @@ pub run_commands-returns : goal.run_commands-returns
 run_commands-returns g t c =
     let all = c.args.commands.now in
     let ran = ran_as (acts_in (take c.loop-command.command-index all)) (acts_in all) (ap acts_in (take_all c.loop-command.command-index all c.loop-command-test.false)) c.loop-command.invariant.ran in
-    record { does = ran.does; counts = c.loop-command.invariant.counts; same_sink = c.loop-command.invariant.same_sink; kept = ran.kept; stays = ran.stays; keeps = ran.keeps }
+    record { does = ran.does; counts = c.loop-command.invariant.counts; same_sink = c.loop-command.invariant.same_sink; keeps = ran.keeps }

@@ -1,5 +1,6 @@
 use Rattle.std.proofs.Common.{◌≡◌, ◌∷◌, []}
 use Rattle.std.specs.Prelude.{reverse}
+use Rattle.outer_world.specs.State.{Keeps}
 use Rattle.tst_runner.specs.Inner.Gathered.{Leads, sources_of}
 use Rattle.hdl_names.specs.Names.{IsIndexed}
 use Rattle.tst_runner.proofs.Ending.{candidates, left}
@@ -7,12 +8,10 @@ use Rattle.tst_runner.proofs.gathering.gather_from.Given as goal
 
 abbrev pub invariant-chips : goal.invariant-chips
 invariant-chips g l = record {
-  leads : Leads (sources_of l.fn.places (g.F.Shelf.files l.fn.shelf)) (l.fn.name ∷ []) [] (reverse l.stack.items) l.gathered.entries;
+  leads : Leads (sources_of l.fn.places (g.F.Shelf.state l.fn.shelf).files) (l.fn.name ∷ []) [] (reverse l.stack.items) l.gathered.entries;
   indexed : IsIndexed l.gathered;
   counts : g.F.Shelf.faults l.shelf ≡ g.F.Shelf.faults l.fn.shelf;
-  kept : g.F.Shelf.files l.shelf ≡ g.F.Shelf.files l.fn.shelf;
-  stays : g.F.Shelf.there l.shelf ≡ g.F.Shelf.there l.fn.shelf;
-  keeps : g.F.Shelf.unfailing l.fn.shelf → g.F.Shelf.unfailing l.shelf;
+  keeps : Keeps (g.F.Shelf.state l.fn.shelf) (g.F.Shelf.state l.shelf);
 }
 
 abbrev pub decreases-chips : goal.decreases-chips

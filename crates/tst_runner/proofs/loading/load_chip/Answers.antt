@@ -12,18 +12,18 @@ use Rattle.tst_runner.proofs.loading.load_chip.Goals as goal
 
 pub returns-clause-loads : goal.returns-clause-loads
 returns-clause-loads g c =
-    let files = g.F.Shelf.files c.args.shelf.now in
-    let setting = setting_of c.args.script.path.now files c.args.script.blocks in
-    let unfailing = g.F.Shelf.unfailing c.args.shelf.now in
-    let missed = unfailing → LacksFolder files (g.F.Shelf.there c.args.shelf.now) (folder_of c.args.script.path.now) in
+    let files = (g.F.Shelf.state c.args.shelf.now).files in
+    let setting = setting_of c.args.script.path.now files c.args.script.memories in
+    let unfailing = (g.F.Shelf.state c.args.shelf.now).unfailing in
+    let missed = unfailing → LacksFolder files (g.F.Shelf.state c.args.shelf.now).there (folder_of c.args.script.path.now) in
     let N : List ℕ → Type 0 = λ name. Loads (ChipIsLoaded setting (file_of name)) (IsNotLoaded setting (file_of name)) missed c.build_chip.result in
     subst N c.in_ok-name.ensures (Loads-chip setting c.in_ok-name.name c.in_ok-library.library.entries missed c.build_chip.result c.in_ok-library.ensures.loads (c.build_chip.ensures.loads files) c.build_chip.ensures.driven)
 
 pub returns-clause-counts : goal.returns-clause-counts
 returns-clause-counts g c =
-    let files = g.F.Shelf.files c.args.shelf.now in
-    let setting = setting_of c.args.script.path.now files c.args.script.blocks in
-    let unfailing = g.F.Shelf.unfailing c.args.shelf.now in
+    let files = (g.F.Shelf.state c.args.shelf.now).files in
+    let setting = setting_of c.args.script.path.now files c.args.script.memories in
+    let unfailing = (g.F.Shelf.state c.args.shelf.now).unfailing in
     let name = c.in_ok-name.name in
     let entries = c.in_ok-library.library.entries in
     CountsLoad-built (λ (chip : DrivenChip). IsBuilt setting entries name (chip_of chip)) (λ line. IsUnknown setting entries name line ⊎ IsFaulty setting entries name line)

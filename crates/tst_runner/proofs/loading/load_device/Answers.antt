@@ -24,10 +24,10 @@ is_of file name e f = file_of-stem file name ((bytes_eq-Decides (drop (length fi
 pub returns-in_err-load_chip-in-Some-clause-loads : goal.returns-in_err-load_chip-in-Some-clause-loads
 returns-in_err-load_chip-in-Some-clause-loads g c =
     let p = err_from_is_err_and c.from_residual.result c.from_residual.ensures.1 in
-    let files = g.F.Shelf.files c.args.shelf.now in
-    let setting = setting_of c.args.script.path.now files c.args.script.blocks in
-    let unfailing = g.F.Shelf.unfailing c.args.shelf.now in
-    let there = g.F.Shelf.there c.args.shelf.now in
+    let files = (g.F.Shelf.state c.args.shelf.now).files in
+    let setting = setting_of c.args.script.path.now files c.args.script.memories in
+    let unfailing = (g.F.Shelf.state c.args.shelf.now).unfailing in
+    let there = (g.F.Shelf.state c.args.shelf.now).there in
     let file = c.args.file.now in
     let name = c.in-Some.name.now in
     let ends : ends_in (codes ".hdl") file ≡ true = c.in-Some.ensures.cases.0 in
@@ -38,9 +38,9 @@ returns-in_err-load_chip-in-Some-clause-loads g c =
 
 pub returns-in_ok-load_chip-in-Some-clause-loads : goal.returns-in_ok-load_chip-in-Some-clause-loads
 returns-in_ok-load_chip-in-Some-clause-loads g c =
-    let files = g.F.Shelf.files c.args.shelf.now in
-    let setting = setting_of c.args.script.path.now files c.args.script.blocks in
-    let unfailing = g.F.Shelf.unfailing c.args.shelf.now in
+    let files = (g.F.Shelf.state c.args.shelf.now).files in
+    let setting = setting_of c.args.script.path.now files c.args.script.memories in
+    let unfailing = (g.F.Shelf.state c.args.shelf.now).unfailing in
     let file = c.args.file.now in
     let name = c.in-Some.name.now in
     let is = is_of file name c.in-Some.ensures.cases.0 c.in-Some.ensures.cases.1 in

@@ -12,12 +12,12 @@ use Rattle.tst_runner.proofs.loading.load_machine.Goals as goal
 pub returns-in_err-image-clause-loads : goal.returns-in_err-image-clause-loads
 returns-in_err-image-clause-loads g c =
     let p = err_from_is_err_and c.from_residual.result c.from_residual.ensures.1 in
-    let files = g.F.Shelf.files c.args.shelf.now in
-    let setting = setting_of c.args.script.path.now files c.args.script.blocks in
-    let unfailing = g.F.Shelf.unfailing c.args.shelf.now in
+    let files = (g.F.Shelf.state c.args.shelf.now).files in
+    let setting = setting_of c.args.script.path.now files c.args.script.memories in
+    let unfailing = (g.F.Shelf.state c.args.shelf.now).unfailing in
     let missed = unfailing → LacksFile files (path_of setting c.args.file.now) in
     rw (p.1, p.2) (Loads-err (λ (words : Vec ℕ Global). IsImage setting c.args.file.now words.items) (MachineIsLoaded setting c.args.file.now) (IsNoImage setting c.args.file.now) (IsNoImage setting c.args.file.now) missed missed
-    c.in_err-image.field-0.0 (λ line k. k) (λ m. m) (c.in_err-image.ensures.loads c.args.script.blocks))
+    c.in_err-image.field-0.0 (λ line k. k) (λ m. m) (c.in_err-image.ensures.loads c.args.script.memories))
 
 pub returns-clause-loads : goal.returns-clause-loads
-returns-clause-loads g c = (c.in_ok-image.image.items, c.in_ok-image.ensures.loads c.args.script.blocks, c.in_ok-new.ensures ∙ ap loaded_machine c.deref.ensures.value)
+returns-clause-loads g c = (c.in_ok-image.image.items, c.in_ok-image.ensures.loads c.args.script.memories, c.in_ok-new.ensures ∙ ap loaded_machine c.deref.ensures.value)

@@ -12,8 +12,8 @@ returns-clause-runs g c = λ are.
     let now = c.run_commands-end.new in
     let done = c.run_commands-end.ensures in
     let acts = acts_in c.args.commands.now in
-    let ran = ran_of {path = c.args.script.path.now} {files = g.F.Shelf.files c.args.shelf.now} {there = g.F.Shelf.there c.args.shelf.now} {u = g.F.Shelf.unfailing c.args.shelf.now} {o = g.O.Sink.written c.args.outlet.now.sink.now} {p = pending c.args.outlet.now} {e = g.E.Sink.written c.args.err.now}
-    (g.F.Shelf.files now.shelf) (g.F.Shelf.there now.shelf) (g.F.Shelf.unfailing now.shelf) (g.O.Sink.written now.out.sink.now) (pending now.out) (g.E.Sink.written now.err) acts now.state c.run_commands-end.result done.does done.kept done.stays done.keeps in
+    let ran = ran_of {path = c.args.script.path.now} {files = (g.F.Shelf.state c.args.shelf.now).files} {there = (g.F.Shelf.state c.args.shelf.now).there} {u = (g.F.Shelf.state c.args.shelf.now).unfailing} {o = g.O.Sink.written c.args.outlet.now.sink.now} {p = pending c.args.outlet.now} {e = g.E.Sink.written c.args.err.now}
+    (g.F.Shelf.state now.shelf).files (g.F.Shelf.state now.shelf).there (g.F.Shelf.state now.shelf).unfailing (g.O.Sink.written now.out.sink.now) (pending now.out) (g.E.Sink.written now.err) acts now.state c.run_commands-end.result done.does done.keeps in
     run_ends _ _ _ _ _ _ _ _ _ _ (g.O.Sink.written c.finish.new.outlet.sink.now) _ _ _ _ acts _ now.state c.run_commands-end.result c.is_some.result c.finish.result (g.O.Sink.faults now.out.sink.now) (g.O.Sink.faults c.finish.new.outlet.sink.now) c.requires are ran (record { device = tt; columns = subst (AreColumns at_first.device []) (sym c.new.ensures.items) tt; compared = tt; lines = refl }) c.is_some.ensures c.finish.ensures.finishes
 
 pub returns-clause-counts : goal.returns-clause-counts

@@ -1,4 +1,3 @@
-use Rattle.std.specs.Prelude.{not}
 use Rattle.std.proofs.Common.{◌≡◌, ℕ, Err, Result, sym, ap, ◌∙◌, subst}
 use Rattle.std.proofs.lemmas.Result.{err_from_is_err_and}
 use Rattle.tst_runner.specs.declared.script.Verdict.{Verdict}
@@ -13,8 +12,8 @@ pub returns-in_err-commands-clause-runs : goal.returns-in_err-commands-clause-ru
 returns-in_err-commands-clause-runs g c =
     let q = err_from_is_err_and c.from_residual.result c.from_residual.ensures.1 in
     let is : c.from_residual.result ≡ Err (errors.Unloaded c.in_err-commands.field-0.0) = q.1 ∙ ap (λ (x : ScriptError). Err x) q.2 in
-    subst (λ (r : Result Verdict ScriptError). Runs (setting_of c.args.path.now (g.F.Shelf.files c.args.shelf.now) (not c.args.gates)) (g.F.Shelf.there c.args.shelf.now) (g.F.Shelf.unfailing c.args.shelf.now) (g.O.Sink.written c.args.out.now) (g.O.Sink.written c.args.out.now) (g.E.Sink.written c.args.err.now) (g.E.Sink.written c.args.err.now) r) (sym is)
-    (unread_ends c.args.path.now (not c.args.gates) (g.F.Shelf.files c.args.shelf.now) (g.F.Shelf.there c.args.shelf.now) (g.F.Shelf.unfailing c.args.shelf.now) (g.O.Sink.written c.args.out.now) (g.E.Sink.written c.args.err.now) c.in_err-commands.field-0.0 c.in_err-commands.ensures.loads)
+    subst (λ (r : Result Verdict ScriptError). Runs (setting_of c.args.path.now (g.F.Shelf.state c.args.shelf.now).files c.args.memories) (g.F.Shelf.state c.args.shelf.now).there (g.F.Shelf.state c.args.shelf.now).unfailing (g.O.Sink.written c.args.out.now) (g.O.Sink.written c.args.out.now) (g.E.Sink.written c.args.err.now) (g.E.Sink.written c.args.err.now) r) (sym is)
+    (unread_ends c.args.path.now c.args.memories (g.F.Shelf.state c.args.shelf.now).files (g.F.Shelf.state c.args.shelf.now).there (g.F.Shelf.state c.args.shelf.now).unfailing (g.O.Sink.written c.args.out.now) (g.E.Sink.written c.args.err.now) c.in_err-commands.field-0.0 c.in_err-commands.ensures.loads)
 
 pub returns-in_err-commands-clause-counts : goal.returns-in_err-commands-clause-counts
 returns-in_err-commands-clause-counts g c =
@@ -29,9 +28,9 @@ returns-clause-runs g c =
     let then = c.load.new.shelf in
     let now = c.run_whole.new in
     let read = c.in_ok-commands.ensures in
-    read_ends c.args.path.now (not c.args.gates) (g.F.Shelf.files shelf) (g.F.Shelf.files then) (g.F.Shelf.there shelf) (g.F.Shelf.there then) (g.F.Shelf.unfailing shelf) (g.F.Shelf.unfailing then)
+    read_ends c.args.path.now c.args.memories (g.F.Shelf.state shelf).files (g.F.Shelf.state then).files (g.F.Shelf.state shelf).there (g.F.Shelf.state then).there (g.F.Shelf.state shelf).unfailing (g.F.Shelf.state then).unfailing
     (g.O.Sink.written c.args.out.now) (g.O.Sink.written now.out) (g.E.Sink.written c.args.err.now) (g.E.Sink.written now.err) c.in_ok-commands.commands.items c.deref.result.now c.run_whole.result
-    read.kept read.stays read.keeps c.deref.ensures.value read.loads c.run_whole.ensures.runs
+    read.keeps.files read.keeps.there read.keeps.unfailing c.deref.ensures.value read.loads c.run_whole.ensures.runs
 
 pub returns-clause-counts : goal.returns-clause-counts
 returns-clause-counts g c =

@@ -14,10 +14,10 @@ use Rattle.nand_cli.proofs.commands.asm.answer_asm.Goals as goal
 pub returns-in_err-words-clause-does : goal.returns-in_err-words-clause-does
 returns-in_err-words-clause-does g c = λ err.
     let p = err_from_is_err_and c.from_residual.result c.from_residual.ensures.1 in
-    let files = g.F.Shelf.files c.args.shelf.now in
+    let files = (g.F.Shelf.state c.args.shelf.now).files in
     let path = c.args.path.now in
-    rw (p.1, p.2) (nothing_put (SpellsAt (λ text (words : Vec ℕ Global). SpellsWords Assembly text words.items) files path) (IsFaulty (TellsAsmFault Assembly) files path) (g.F.Shelf.unfailing c.args.shelf.now → LacksFile files path)
-    files (g.F.Shelf.there c.args.shelf.now) (g.F.Shelf.unfailing c.args.shelf.now) (of_file path asm) (g.O.Sink.written c.args.out.now) err _ (λ line k. (refl, refused_in Assembly files path line k, refl)) (λ h. h) c.in_err-words.ensures.loads tt)
+    rw (p.1, p.2) (nothing_put (SpellsAt (λ text (words : Vec ℕ Global). SpellsWords Assembly text words.items) files path) (IsFaulty (TellsAsmFault Assembly) files path) ((g.F.Shelf.state c.args.shelf.now).unfailing → LacksFile files path)
+    files (g.F.Shelf.state c.args.shelf.now).there (g.F.Shelf.state c.args.shelf.now).unfailing (of_file path asm) (g.O.Sink.written c.args.out.now) err _ (λ line k. (refl, refused_in Assembly files path line k, refl)) (λ h. h) c.in_err-words.ensures.loads tt)
 
 pub returns-in_err-words-clause-counts : goal.returns-in_err-words-clause-counts
 returns-in_err-words-clause-counts g c = λ err.
@@ -30,7 +30,7 @@ returns-clause-does g c = λ err.
     let out' = g.O.Sink.written c.write_hack.new.out in
     let P : List ℕ → Type 0 = λ words. Puts out out' (image_text words) c.write_hack.result in
     let words = c.in_ok-words.words.items in
-    rw (c.finished.ensures) (done_by (g.F.Shelf.files c.args.shelf.now) (g.F.Shelf.there c.args.shelf.now) (g.F.Shelf.unfailing c.args.shelf.now) (of_file c.args.path.now asm) (image_text words) out out' err c.write_hack.result
+    rw (c.finished.ensures) (done_by (g.F.Shelf.state c.args.shelf.now).files (g.F.Shelf.state c.args.shelf.now).there (g.F.Shelf.state c.args.shelf.now).unfailing (of_file c.args.path.now asm) (image_text words) out out' err c.write_hack.result
     ((words, c.in_ok-words.ensures.loads, refl), refl) (subst P c.deref.ensures.value c.write_hack.ensures.put) tt)
 
 pub returns-clause-counts : goal.returns-clause-counts

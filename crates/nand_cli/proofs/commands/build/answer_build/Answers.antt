@@ -12,11 +12,11 @@ use Rattle.nand_cli.proofs.commands.build.answer_build.Goals as goal
 pub returns-in_err-program-clause-does : goal.returns-in_err-program-clause-does
 returns-in_err-program-clause-does g c = λ err.
     let p = err_from_is_err_and c.from_residual.result c.from_residual.ensures.1 in
-    let files = g.F.Shelf.files c.args.shelf.now in
+    let files = (g.F.Shelf.state c.args.shelf.now).files in
     let folder = c.args.source.now.folder.now in
     let source = source_of c.args.source.now in
-    let there = g.F.Shelf.there c.args.shelf.now in
-    let steady = g.F.Shelf.unfailing c.args.shelf.now in
+    let there = (g.F.Shelf.state c.args.shelf.now).there in
+    let steady = (g.F.Shelf.state c.args.shelf.now).unfailing in
     rw (p.1, p.2) (nothing_put (λ (b : BuiltProgram). FolderBuilds files source b.core b.image) (BuildRefuses files source) (steady → LacksFolder files there folder) files there steady (of_classes (source_of c.args.source.now) build) (g.O.Sink.written c.args.out.now) err _
     (λ line k. (refl, k, refl)) (λ k s. missing files there folder (of_classes (source_of c.args.source.now) build) (λ told none. inl none) (k s)) c.in_err-program.ensures.loads tt)
 
@@ -29,7 +29,7 @@ pub returns-clause-does : goal.returns-clause-does
 returns-clause-does g c = λ err.
     let P : List ℕ → Type 0 = λ words. Puts (g.O.Sink.written c.args.out.now) (g.O.Sink.written c.write_hack.new.out) (image_text words) c.write_hack.result in
     let program = c.in_ok-program.program in
-    rw (c.finished.ensures) (done_by (g.F.Shelf.files c.args.shelf.now) (g.F.Shelf.there c.args.shelf.now) (g.F.Shelf.unfailing c.args.shelf.now) (of_classes (source_of c.args.source.now) build) (image_text program.image.words) _ _ err c.write_hack.result
+    rw (c.finished.ensures) (done_by (g.F.Shelf.state c.args.shelf.now).files (g.F.Shelf.state c.args.shelf.now).there (g.F.Shelf.state c.args.shelf.now).unfailing (of_classes (source_of c.args.source.now) build) (image_text program.image.words) _ _ err c.write_hack.result
     ((program.core, program.image, c.in_ok-program.ensures.loads, refl), refl) (subst P c.as_slice.ensures c.write_hack.ensures.put) tt)
 
 pub returns-clause-counts : goal.returns-clause-counts

@@ -17,7 +17,7 @@ pub returns-in_err-prepared-clause-does : goal.returns-in_err-prepared-clause-do
 returns-in_err-prepared-clause-does g c = λ err.
     let request = c.args.request.now in
     let p = err_from_is_err_and c.from_residual.result c.from_residual.ensures.1 in
-    rw (p.1, p.2) (undone _ (g.F.Shelf.there c.args.shelf.now) (g.F.Shelf.unfailing c.args.shelf.now) (source_of c.args.source.now) request.sub.now request.number request.cycles (option_map (λ keys. keys.now) request.keys) _ err _ c.in_err-prepared.ensures.loads)
+    rw (p.1, p.2) (undone _ (g.F.Shelf.state c.args.shelf.now).there (g.F.Shelf.state c.args.shelf.now).unfailing (source_of c.args.source.now) request.sub.now request.number request.cycles (option_map (λ keys. keys.now) request.keys) _ err _ c.in_err-prepared.ensures.loads)
 
 pub returns-in_err-prepared-clause-counts : goal.returns-in_err-prepared-clause-counts
 returns-in_err-prepared-clause-counts g c = λ err.
@@ -27,7 +27,7 @@ returns-in_err-prepared-clause-counts g c = λ err.
 pub returns-clause-does : goal.returns-clause-does
 returns-clause-does g c = λ err.
     let request = c.args.request.now in
-    answered _ (g.F.Shelf.there c.args.shelf.now) (g.F.Shelf.unfailing c.args.shelf.now) (source_of c.args.source.now) request.sub.now request.number request.cycles (option_map (λ keys. keys.now) request.keys)
+    answered _ (g.F.Shelf.state c.args.shelf.now).there (g.F.Shelf.state c.args.shelf.now).unfailing (source_of c.args.source.now) request.sub.now request.number request.cycles (option_map (λ keys. keys.now) request.keys)
     c.in_ok-prepared.prepared _ _ err c.show.result c.in_ok-prepared.ensures.loads c.show.ensures.reports
 
 pub returns-clause-counts : goal.returns-clause-counts

@@ -21,7 +21,7 @@ pub returns-in_err-program-clause-loads : goal.returns-in_err-program-clause-loa
 returns-in_err-program-clause-loads g c =
     let request = c.args.request.now in
     let p = err_from_is_err_and c.from_residual.result c.from_residual.ensures.1 in
-    rw (p.1, p.2) (without_placed _ (g.F.Shelf.there c.args.shelf.now) (g.F.Shelf.unfailing c.args.shelf.now) (source_of c.args.source.now) request.sub.now request.number request.cycles (option_map (λ keys. keys.now) request.keys) _ c.in_err-program.ensures.loads)
+    rw (p.1, p.2) (without_placed _ (g.F.Shelf.state c.args.shelf.now).there (g.F.Shelf.state c.args.shelf.now).unfailing (source_of c.args.source.now) request.sub.now request.number request.cycles (option_map (λ keys. keys.now) request.keys) _ c.in_err-program.ensures.loads)
 
 pub returns-in_err-program-clause-counts : goal.returns-in_err-program-clause-counts
 returns-in_err-program-clause-counts g c =
@@ -32,7 +32,7 @@ pub returns-in_err-check_point-clause-loads : goal.returns-in_err-check_point-cl
 returns-in_err-check_point-clause-loads g c =
     let request = c.args.request.now in
     let p = err_from_is_err_and c.from_residual-in_err-check_point.result c.from_residual-in_err-check_point.ensures.1 in
-    rw (p.1, p.2) (without_statement _ (g.F.Shelf.there c.args.shelf.now) (g.F.Shelf.unfailing c.args.shelf.now) (source_of c.args.source.now) request.sub.now request.number request.cycles (option_map (λ keys. keys.now) request.keys)
+    rw (p.1, p.2) (without_statement _ (g.F.Shelf.state c.args.shelf.now).there (g.F.Shelf.state c.args.shelf.now).unfailing (source_of c.args.source.now) request.sub.now request.number request.cycles (option_map (λ keys. keys.now) request.keys)
     c.in_ok-program.program _ c.in_ok-program.ensures.loads c.in_err-check_point.ensures)
 
 pub returns-in_err-check_point-clause-counts : goal.returns-in_err-check_point-clause-counts
@@ -47,14 +47,14 @@ returns-in_err-keys-clause-loads g c =
     let request = c.args.request.now in
     let path = option_map (λ keys. keys.now) request.keys in
     let p = err_from_is_err_and c.from_residual-in_err-keys.result c.from_residual-in_err-keys.ensures.1 in
-    let files = g.F.Shelf.files c.args.shelf.now in
-    let steady = g.F.Shelf.unfailing c.args.shelf.now in
-    let later = g.F.Shelf.unfailing c.load_placed.new.shelf in
+    let files = (g.F.Shelf.state c.args.shelf.now).files in
+    let steady = (g.F.Shelf.state c.args.shelf.now).unfailing in
+    let later = (g.F.Shelf.state c.load_placed.new.shelf).unfailing in
     let e = c.in_err-keys.field-0.0 in
     let P : Option Files → Type 0 = λ fs. Loads (λ (k : Keys). HasKeys fs path k) (ScriptIsRefused fs path) (later → LacksKeys fs path) (Err e) in
     let read = without (λ (k : Keys). HasKeys files path k) (ScriptIsRefused files path) (later → LacksKeys files path) (λ (k : Keys). HasKeys files path k) (ScriptIsRefused files path) (steady → LacksKeys files path) e
-    (λ line h. h) (λ h s. h (c.in_ok-program.ensures.keeps s)) (subst P c.in_ok-program.ensures.kept c.in_err-keys.ensures.loads) in
-    rw (p.1, p.2) (without_keys files (g.F.Shelf.there c.args.shelf.now) steady (source_of c.args.source.now) request.sub.now request.number request.cycles path c.in_ok-program.program e c.in_ok-program.ensures.loads c.in_ok-check_point.ensures read)
+    (λ line h. h) (λ h s. h (c.in_ok-program.ensures.keeps.unfailing s)) (subst P c.in_ok-program.ensures.keeps.files c.in_err-keys.ensures.loads) in
+    rw (p.1, p.2) (without_keys files (g.F.Shelf.state c.args.shelf.now).there steady (source_of c.args.source.now) request.sub.now request.number request.cycles path c.in_ok-program.program e c.in_ok-program.ensures.loads c.in_ok-check_point.ensures read)
 
 pub returns-in_err-keys-clause-counts : goal.returns-in_err-keys-clause-counts
 returns-in_err-keys-clause-counts g c =
@@ -79,13 +79,13 @@ pub returns-clause-loads : goal.returns-clause-loads
 returns-clause-loads g c =
     let request = c.args.request.now in
     let path = option_map (λ keys. keys.now) request.keys in
-    let files = g.F.Shelf.files c.args.shelf.now in
+    let files = (g.F.Shelf.state c.args.shelf.now).files in
     let source = source_of c.args.source.now in
     let P : Option Files → Type 0 = λ files. HasKeys files path c.in_ok-keys.keys in
     let Q : Places → Type 0 = λ places. IsPreparedDebug files source request.sub.now request.number path (record { places = places; keys = c.in_ok-keys.keys; computer = c.in_ok-computer.computer }) in
     subst Q (sym c.into_parts-image.ensures.places)
-    (prepared files (g.F.Shelf.there c.args.shelf.now) (g.F.Shelf.unfailing c.args.shelf.now) source request.sub.now request.number request.cycles path
-    c.in_ok-program.program c.in_ok-keys.keys c.in_ok-computer.computer c.in_ok-program.ensures.loads c.in_ok-check_point.ensures (subst P c.in_ok-program.ensures.kept c.in_ok-keys.ensures.loads)
+    (prepared files (g.F.Shelf.state c.args.shelf.now).there (g.F.Shelf.state c.args.shelf.now).unfailing source request.sub.now request.number request.cycles path
+    c.in_ok-program.program c.in_ok-keys.keys c.in_ok-computer.computer c.in_ok-program.ensures.loads c.in_ok-check_point.ensures (subst P c.in_ok-program.ensures.keeps.files c.in_ok-keys.ensures.loads)
     (keys_are_words _ _ c.in_ok-keys.keys c.in_ok-keys.ensures.loads) (c.in_ok-computer.ensures.image ∙ c.into_parts-image.ensures.image) c.in_ok-computer.ensures.moves c.in_ok-computer.ensures.stands)
 
 pub returns-clause-counts : goal.returns-clause-counts

@@ -16,11 +16,11 @@ use Rattle.nand_cli.proofs.commands.map.answer_places.Goals as goal
 pub returns-in_err-program-clause-does : goal.returns-in_err-program-clause-does
 returns-in_err-program-clause-does g c = λ err.
     let p = err_from_is_err_and c.from_residual.result c.from_residual.ensures.1 in
-    let files = g.F.Shelf.files c.args.shelf.now in
+    let files = (g.F.Shelf.state c.args.shelf.now).files in
     let folder = c.args.source.now.folder.now in
     let source = source_of c.args.source.now in
-    let there = g.F.Shelf.there c.args.shelf.now in
-    let steady = g.F.Shelf.unfailing c.args.shelf.now in
+    let there = (g.F.Shelf.state c.args.shelf.now).there in
+    let steady = (g.F.Shelf.state c.args.shelf.now).unfailing in
     rw (p.1, p.2) (nothing_put (FolderIsPlaced files source) (BuildRefuses files source) (steady → LacksFolder files there folder) files there steady (of_classes (source_of c.args.source.now) (map_image Places)) (g.O.Sink.written c.args.out.now) err _
     (λ line k. (refl, k, refl)) (λ k s. missing files there folder (of_classes (source_of c.args.source.now) (map_image Places)) (λ told none. inl none) (k s)) c.in_err-program.ensures.loads tt)
 
@@ -35,8 +35,8 @@ returns-clause-does g c = λ err.
     let places = program.places in
     let placed = c.in_ok-program.ensures.loads in
     let have = placed.2.have in
-    let here : FolderHasPlaces (g.F.Shelf.files c.args.shelf.now) (source_of c.args.source.now) places = (placed.0, placed.1, have) in
-    rw (c.finished.ensures) (done_by (g.F.Shelf.files c.args.shelf.now) (g.F.Shelf.there c.args.shelf.now) (g.F.Shelf.unfailing c.args.shelf.now) (of_classes (source_of c.args.source.now) (map_image Places)) (map_text places) _ _ err c.print_map.result
+    let here : FolderHasPlaces (g.F.Shelf.state c.args.shelf.now).files (source_of c.args.source.now) places = (placed.0, placed.1, have) in
+    rw (c.finished.ensures) (done_by (g.F.Shelf.state c.args.shelf.now).files (g.F.Shelf.state c.args.shelf.now).there (g.F.Shelf.state c.args.shelf.now).unfailing (of_classes (source_of c.args.source.now) (map_image Places)) (map_text places) _ _ err c.print_map.result
     ((places, here, (covered have.core have.image have.is_image, rising have.core have.image have.is_image), refl), refl) c.print_map.ensures.put tt)
 
 pub returns-clause-counts : goal.returns-clause-counts

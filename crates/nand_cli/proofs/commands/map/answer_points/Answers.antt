@@ -17,11 +17,11 @@ use Rattle.nand_cli.proofs.commands.map.answer_points.Goals as goal
 pub returns-in_err-program-clause-does : goal.returns-in_err-program-clause-does
 returns-in_err-program-clause-does g c = λ err.
     let p = err_from_is_err_and c.from_residual.result c.from_residual.ensures.1 in
-    let files = g.F.Shelf.files c.args.shelf.now in
+    let files = (g.F.Shelf.state c.args.shelf.now).files in
     let folder = c.args.source.now.folder.now in
     let source = source_of c.args.source.now in
-    let there = g.F.Shelf.there c.args.shelf.now in
-    let steady = g.F.Shelf.unfailing c.args.shelf.now in
+    let there = (g.F.Shelf.state c.args.shelf.now).there in
+    let steady = (g.F.Shelf.state c.args.shelf.now).unfailing in
     rw (p.1, p.2) (nothing_put (λ (b : BuiltProgram). FolderBuilds files source b.core b.image) (BuildRefuses files source) (steady → LacksFolder files there folder) files there steady (of_classes (source_of c.args.source.now) (map_image Points)) (g.O.Sink.written c.args.out.now) err _
     (λ line k. (refl, k, refl)) (λ k s. missing files there folder (of_classes (source_of c.args.source.now) (map_image Points)) (λ told none. inl none) (k s)) c.in_err-program.ensures.loads tt)
 
@@ -40,7 +40,7 @@ returns-clause-does g c = λ err.
     let r = c.show_map.result in
     let P : List (List ℕ) → Type 0 = λ ns. Puts out out' (map_text ns image.map) r in
     let named = ap (map (λ n. n.now)) c.deref-2.ensures.value ∙ c.in_ok-names.ensures ∙ ap (map (λ s. s.name)) c.deref.ensures.value in
-    rw (c.finished.ensures) (done_by (g.F.Shelf.files c.args.shelf.now) (g.F.Shelf.there c.args.shelf.now) (g.F.Shelf.unfailing c.args.shelf.now) (of_classes (source_of c.args.source.now) (map_image Points)) (map_text (names_of core) image.map) _ _ err r
+    rw (c.finished.ensures) (done_by (g.F.Shelf.state c.args.shelf.now).files (g.F.Shelf.state c.args.shelf.now).there (g.F.Shelf.state c.args.shelf.now).unfailing (of_classes (source_of c.args.source.now) (map_image Points)) (map_text (names_of core) image.map) _ _ err r
     ((core, image, c.in_ok-program.ensures.loads, (covered core image c.in_ok-program.ensures.loads.1, rising core image c.in_ok-program.ensures.loads.1), refl), refl) (subst P named c.show_map.ensures.put) tt)
 
 pub returns-clause-counts : goal.returns-clause-counts

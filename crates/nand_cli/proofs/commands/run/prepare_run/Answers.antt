@@ -17,13 +17,13 @@ pub returns-in_err-core-clause-loads : goal.returns-in_err-core-clause-loads
 returns-in_err-core-clause-loads g c =
     let request = c.args.request.now in
     let p = err_from_is_err_and c.from_residual.result c.from_residual.ensures.1 in
-    rw (p.1, p.2) (without_jack request.level _ (g.F.Shelf.there c.args.shelf.now) (g.F.Shelf.unfailing c.args.shelf.now) (source_of c.args.source.now) request.cycles (option_map (λ keys. keys.now) request.keys) _ c.in_err-core.ensures.loads)
+    rw (p.1, p.2) (without_jack request.level _ (g.F.Shelf.state c.args.shelf.now).there (g.F.Shelf.state c.args.shelf.now).unfailing (source_of c.args.source.now) request.cycles (option_map (λ keys. keys.now) request.keys) _ c.in_err-core.ensures.loads)
 
 pub returns-in_err-image-clause-loads : goal.returns-in_err-image-clause-loads
 returns-in_err-image-clause-loads g c =
     let request = c.args.request.now in
     let p = err_from_is_err_and c.from_residual-in_err-image.result c.from_residual-in_err-image.ensures.1 in
-    rw (p.1, p.2) (without_image request.level _ (g.F.Shelf.there c.args.shelf.now) (g.F.Shelf.unfailing c.args.shelf.now) (source_of c.args.source.now) request.cycles (option_map (λ keys. keys.now) request.keys)
+    rw (p.1, p.2) (without_image request.level _ (g.F.Shelf.state c.args.shelf.now).there (g.F.Shelf.state c.args.shelf.now).unfailing (source_of c.args.source.now) request.cycles (option_map (λ keys. keys.now) request.keys)
     c.in_ok-core.core _ c.in_ok-core.ensures.loads c.in_err-image.ensures.loads)
 
 pub returns-in_err-image-clause-counts : goal.returns-in_err-image-clause-counts
@@ -37,14 +37,14 @@ returns-in_err-keys-clause-loads g c =
     let request = c.args.request.now in
     let path = option_map (λ keys. keys.now) request.keys in
     let p = err_from_is_err_and c.from_residual-in_err-keys.result c.from_residual-in_err-keys.ensures.1 in
-    let files = g.F.Shelf.files c.args.shelf.now in
-    let steady = g.F.Shelf.unfailing c.args.shelf.now in
-    let later = g.F.Shelf.unfailing c.load_jack.new.shelf in
+    let files = (g.F.Shelf.state c.args.shelf.now).files in
+    let steady = (g.F.Shelf.state c.args.shelf.now).unfailing in
+    let later = (g.F.Shelf.state c.load_jack.new.shelf).unfailing in
     let e = c.in_err-keys.field-0.0 in
     let P : Option Files → Type 0 = λ fs. Loads (λ (k : Keys). HasKeys fs path k) (ScriptIsRefused fs path) (later → LacksKeys fs path) (Err e) in
     let read = without (λ (k : Keys). HasKeys files path k) (ScriptIsRefused files path) (later → LacksKeys files path) (λ (k : Keys). HasKeys files path k) (ScriptIsRefused files path) (steady → LacksKeys files path) e
-    (λ line h. h) (λ h s. h (c.in_ok-core.ensures.keeps s)) (subst P c.in_ok-core.ensures.kept c.in_err-keys.ensures.loads) in
-    rw (p.1, p.2) (without_keys request.level files (g.F.Shelf.there c.args.shelf.now) steady (source_of c.args.source.now) request.cycles path c.in_ok-core.core e c.in_ok-core.ensures.loads (c.in_ok-image.image, c.in_ok-image.ensures.loads) read)
+    (λ line h. h) (λ h s. h (c.in_ok-core.ensures.keeps.unfailing s)) (subst P c.in_ok-core.ensures.keeps.files c.in_err-keys.ensures.loads) in
+    rw (p.1, p.2) (without_keys request.level files (g.F.Shelf.state c.args.shelf.now).there steady (source_of c.args.source.now) request.cycles path c.in_ok-core.core e c.in_ok-core.ensures.loads (c.in_ok-image.image, c.in_ok-image.ensures.loads) read)
 
 pub returns-in_err-keys-clause-counts : goal.returns-in_err-keys-clause-counts
 returns-in_err-keys-clause-counts g c =
@@ -72,7 +72,7 @@ returns-clause-loads g c =
     record {
       means = c.in_ok-core.ensures.loads;
       built = (c.in_ok-image.image, c.in_ok-image.ensures.loads);
-      has_keys = subst P c.in_ok-core.ensures.kept c.in_ok-keys.ensures.loads;
+      has_keys = subst P c.in_ok-core.ensures.keeps.files c.in_ok-keys.ensures.loads;
       same_level = c.in_ok-machine.ensures.level;
       same_cycles = refl;
       ready = record {

@@ -14,10 +14,10 @@ use Rattle.nand_cli.proofs.commands.vm.answer_vm.Goals as goal
 pub returns-in_err-program-clause-does : goal.returns-in_err-program-clause-does
 returns-in_err-program-clause-does g c = λ err.
     let p = err_from_is_err_and c.from_residual.result c.from_residual.ensures.1 in
-    let files = g.F.Shelf.files c.args.shelf.now in
+    let files = (g.F.Shelf.state c.args.shelf.now).files in
     let folder = c.args.folder.now in
-    let there = g.F.Shelf.there c.args.shelf.now in
-    let steady = g.F.Shelf.unfailing c.args.shelf.now in
+    let there = (g.F.Shelf.state c.args.shelf.now).there in
+    let steady = (g.F.Shelf.state c.args.shelf.now).unfailing in
     rw (p.1, p.2) (nothing_put (HasProgram c.args.bare files folder) (VmRefuses files folder c.args.bare) (steady → LacksFolder files there folder) files there steady (vm folder c.args.bare) (g.O.Sink.written c.args.out.now) err _
     (λ line k. (refl, k, refl)) (λ h s. missing files there folder (vm folder c.args.bare) (λ told none. none) (h s)) c.in_err-program.ensures.loads tt)
 
@@ -29,10 +29,10 @@ returns-in_err-program-clause-counts g c = λ err.
 pub returns-in_err-coded-clause-does : goal.returns-in_err-coded-clause-does
 returns-in_err-coded-clause-does g c = λ err.
     let p = err_from_is_err_and c.from_residual-in_err-coded.result c.from_residual-in_err-coded.ensures.1 in
-    let files = g.F.Shelf.files c.args.shelf.now in
+    let files = (g.F.Shelf.state c.args.shelf.now).files in
     let folder = c.args.folder.now in
     let program = c.in_ok-program.program in
-    rw (p.1, p.2) (nothing_put (HasCode c.args.bare program) (IsNoCode c.args.bare folder program) ⊥ files (g.F.Shelf.there c.args.shelf.now) (g.F.Shelf.unfailing c.args.shelf.now) (vm folder c.args.bare) (g.O.Sink.written c.args.out.now) err _
+    rw (p.1, p.2) (nothing_put (HasCode c.args.bare program) (IsNoCode c.args.bare folder program) ⊥ files (g.F.Shelf.state c.args.shelf.now).there (g.F.Shelf.state c.args.shelf.now).unfailing (vm folder c.args.bare) (g.O.Sink.written c.args.out.now) err _
     (λ line k. (refl, without_code program c.in_ok-program.ensures.loads k, refl)) (λ h. absurd h) c.in_err-coded.ensures.codes tt)
 
 pub returns-in_err-coded-clause-counts : goal.returns-in_err-coded-clause-counts
@@ -52,7 +52,7 @@ write_asm-requires-clause-few g c =
 pub returns-clause-does : goal.returns-clause-does
 returns-clause-does g c = λ err.
     let codes = c.in_ok-coded.ensures.codes in
-    rw (c.finished.ensures) (done_by (g.F.Shelf.files c.args.shelf.now) (g.F.Shelf.there c.args.shelf.now) (g.F.Shelf.unfailing c.args.shelf.now) (vm c.args.folder.now c.args.bare) (asm_text c.as_slice.result.now) _ _ err c.write_asm.result
+    rw (c.finished.ensures) (done_by (g.F.Shelf.state c.args.shelf.now).files (g.F.Shelf.state c.args.shelf.now).there (g.F.Shelf.state c.args.shelf.now).unfailing (vm c.args.folder.now c.args.bare) (asm_text c.as_slice.result.now) _ _ err c.write_asm.result
     ((c.in_ok-program.program, codes.0, c.in_ok-program.ensures.loads, codes.1, codes.3, ap asm_text (c.as_slice.ensures ∙ codes.2)), refl) c.write_asm.ensures.put tt)
 
 pub returns-clause-counts : goal.returns-clause-counts
