@@ -9,7 +9,8 @@ use Rattle.hack_asm.specs.Program.{Table, address_in, entry_of, is_instruction, 
 use Rattle.hack_asm.specs.Trees.{Line, label, address, compute}
 use Rattle.asm_laws.specs.Symbols.{HasLabel, StandsBehind, label_line}
 use Rattle.asm_laws.specs.Assembly.{IsTaken, LabelsAreNew}
-use Rattle.asm_laws.proofs.Lists.{at, find, last, longer, no_split, split_last, within}
+use Rattle.outer_world.proofs.Splits.{last, no_split, split_last, within}
+use Rattle.asm_laws.proofs.Lists.{at, find, longer}
 
 -- ---- lines
 

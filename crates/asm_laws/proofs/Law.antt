@@ -12,7 +12,7 @@ use Rattle.hack_asm.specs.Program.{Table, first_past, if_near, label_values, lab
 use Rattle.hack_asm.specs.Trees.{Line, Spells, Refuses, label}
 use Rattle.asm_laws.specs.Symbols.{AreVariables, label_line}
 use Rattle.asm_laws.specs.Assembly.{AreWords, Assembles, AssemblyLaw, IsTaken, LabelsAreNew, NoneIsPast, TextLaw, label_twice, past, too_large, too_many, words as has_words}
-use Rattle.asm_laws.proofs.Lists.{first, same, second, splits}
+use Rattle.outer_world.proofs.Splits.{first, same, second, splits}
 use Rattle.asm_laws.proofs.Labels.{Entered, Walked, entered, repeated, same_label, walked}
 use Rattle.asm_laws.proofs.Past.{PastUse, a_use, no_use, none_past, one_past, past_uses}
 use Rattle.asm_laws.proofs.Variables.{Assigned, assigned}

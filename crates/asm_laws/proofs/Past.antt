@@ -7,7 +7,8 @@ use Rattle.hack_asm.specs.Program.{Table, entry_of, first_past, is_past, past_us
 use Rattle.hack_asm.specs.Trees.{Line, Symbol, label, address, compute, number, symbol}
 use Rattle.asm_laws.specs.Symbols.{StandsBehind, use_line}
 use Rattle.asm_laws.specs.Assembly.{NoneIsPast}
-use Rattle.asm_laws.proofs.Lists.{at, first, same, second, splits}
+use Rattle.outer_world.proofs.Splits.{first, same, second, splits}
+use Rattle.asm_laws.proofs.Lists.{at}
 use Rattle.asm_laws.proofs.Labels.{Entered}
 
 -- ---- lines that use a symbol

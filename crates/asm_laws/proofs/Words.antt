@@ -9,7 +9,8 @@ use Rattle.hack_asm.specs.Program.{Table, address_among, address_in, address_wor
 use Rattle.hack_asm.specs.Trees.{Line, label, address, compute, number, symbol}
 use Rattle.asm_laws.specs.Symbols.{HasUse, HasValue, IsFirstUse, AreVariables, StandsBehind, label_line, predefined, labelled, use_line, variable}
 use Rattle.asm_laws.specs.Assembly.{AreWords, HasWord, LabelsAreNew, NoneIsPast, no_word, none, of_computation, of_number, of_symbol, word}
-use Rattle.asm_laws.proofs.Lists.{as_many, at, first, same, second, splits}
+use Rattle.outer_world.proofs.Splits.{first, same, second, splits}
+use Rattle.asm_laws.proofs.Lists.{as_many, at}
 use Rattle.asm_laws.proofs.Labels.{labelled as has_label}
 use Rattle.asm_laws.proofs.Past.{IsUse}
 use Rattle.asm_laws.proofs.Variables.{Assigned}

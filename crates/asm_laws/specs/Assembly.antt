@@ -40,8 +40,9 @@ NoneIsPast program some = (name : List ℕ) → HasUse some name → StandsBehin
 
 -- ---- a program
 
--- A program has labels that are new, at most 32,768 words, no use of a label after them, and at most 16,368 variables, which the addresses 16 to
--- 16,383 hold. Then its words are those of its instructions; else the first of these that fails is wrong, at the first place where it does.
+-- A program has labels that are new, at most 32,768 words, no use of a label after them, and at most 16,368 variables,
+-- which the addresses 16 to 16,383 hold. Then its words are those of its instructions; else the first of these that
+-- fails is wrong, at the first place where it does.
 pub data Assembles (program : List Line) : Result (List ℕ) Wrong → Type 0 where
   label_twice : (before behind : List Line) (name : List ℕ) (at : Place) → program ≡ before ++ label_line name at ∷ behind → LabelsAreNew before → IsTaken before name
       → Assembles program (Err (LabelTwice name at))

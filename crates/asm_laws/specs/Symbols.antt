@@ -62,8 +62,8 @@ pub record IsFirstUse (program : List Line) (name : List ℕ) (before : List Lin
   pub here : program ≡ before ++ use_line name at ∷ behind
   pub first : HasUse before name → ⊥
 
--- The value of a symbol. Of a predefined one it is that of the table, and of a label the number of the instructions before it. Of a variable it
--- is 16 and the number of the variables that the program uses before it.
+-- The value of a symbol. Of a predefined one it is that of the table, and of a label the number of the instructions
+-- before it. Of a variable it is 16 and the number of the variables that the program uses before it.
 pub data HasValue (program : List Line) (name : List ℕ) : ℕ → Type 0 where
   predefined : {n : ℕ} → predefined_value name ≡ Some n → HasValue program name n
   labelled : {n : ℕ} → StandsBehind program name n → HasValue program name n

@@ -1,4 +1,4 @@
--- A text has at most one token more than bytes, and a tree keeps no more words than there are tokens.
+-- A text has at most one token more than bytes.
 use Rattle.std.proofs.Common.{◌≡◌, ◌≤◌, ℕ, zero, suc, ◌+◌, Bool, true, false, cond, List, [], ◌∷◌, length, Option, Some, None, Result, Ok, Err, refl, subst, arith}
 use Rattle.std.proofs.lemmas.Bool.{ltb-false}
 use Rattle.std.specs.Prelude.{IfOk, nat_lt}
@@ -6,7 +6,6 @@ use Rattle.scan_text.specs.declared.Place.{Place}
 use Rattle.scan_text.specs.Text.{start, step}
 use Rattle.grammar.specs.declared.Fault.{Fault}
 use Rattle.grammar.specs.Cutting.{Piece, Passed, Token, Wrong, cut, cut_by, cut_text, with_token}
-use Rattle.grammar.specs.Rules.{Rule, Tree, Skip, Node, Leaf, Pair, Left, Right, Absent, Present, NoMore, More, Rules, Reads, marked, worded, at_end, both, left, right, passed, taken, ended, again, named, inside}
 
 module _ {T : Type 0} (piece : List ℕ → Piece T) (close : Option T → Place → List T) (closes : (last : Option T) (at : Place) → length (close last at) ≤ 1) where
   abbrev AreFew : ℕ → Result (List T) Fault → Type 0
@@ -41,31 +40,3 @@ module _ {T : Type 0} (piece : List ℕ → Piece T) (close : Option T → Place
 
   pub tokens_few : (text : List ℕ) (ts : List T) → cut_text piece close text ≡ Ok ts → length ts ≤ 1048577
   tokens_few text ts e = within (nat_lt 1048576 (length text)) text _ ts refl e
-
--- how many words a tree keeps
-abbrev pub weight : {V : Type 0} → Tree V → ℕ
-weight Skip = 0
-weight (Node x) = weight x
-weight (Leaf v) = 1
-weight (Pair x y) = weight x + weight y
-weight (Left x) = weight x
-weight (Right x) = weight x
-weight Absent = 0
-weight (Present x) = weight x
-weight NoMore = 0
-weight (More x y) = weight x + weight y
-
-module _ (T S N V : Type 0) (g : Rules T S N V) where
-  pub weighs : {s s' : S} {r : Rule T S N V} {ts us : List T} {x : Tree V} → Reads T S N V g s r ts x s' us → weight x + length us ≤ length ts
-  weighs (marked e) = omega arith
-  weighs (worded e c) = omega arith
-  weighs at_end = omega arith
-  weighs (both p q) = omega (arith, weighs p, weighs q)
-  weighs (left e p) = weighs p
-  weighs (right e f p) = weighs p
-  weighs (passed e) = omega arith
-  weighs (taken e p) = weighs p
-  weighs (ended e) = omega arith
-  weighs (again e p q) = omega (arith, weighs p, weighs q)
-  weighs (named p) = weighs p
-  weighs (inside e c p) = weighs p

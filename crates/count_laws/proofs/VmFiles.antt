@@ -11,7 +11,8 @@ use Rattle.vm_parser.specs.Trees.{Spells, WrittenFunction, function_of, function
 use Rattle.vm_parser.specs.Language.{SpellsVmFile}
 use Rattle.count_laws.specs.Counts.{VmLaw}
 use Rattle.count_laws.proofs.Sections.{all_functions, sections_few}
-use Rattle.count_laws.proofs.Tokens.{tokens_few, weight, weighs}
+use Rattle.count_laws.proofs.Tokens.{tokens_few}
+use Rattle.tower.proofs.Weights.{weight, weighs}
 
 closed_by : (b : Bool) (at : Place) → length (cond b (line_end_token at ∷ []) []) ≤ 1
 closed_by true at = omega arith

@@ -24,7 +24,8 @@ abbrev pub all_statics : List Class → ℕ
 all_statics [] = 0
 all_statics (c ∷ cs) = statics_of c.variables.items + all_statics cs
 
--- `resolve` numbers the statics of a folder's classes, each of which some text spells, and of the operating system's beside them.
+-- `resolve` numbers the statics of a folder's classes, each of which some text spells, and of the operating system's
+-- beside them.
 abbrev pub StaticsLaw : Type 0
 StaticsLaw =
     (replace : Bool) (own os : List Class) → length own ≤ 256 → AreSpelled own → AreClassesOf (system_beside replace (map the_file own)) os

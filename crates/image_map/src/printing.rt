@@ -22,7 +22,8 @@ fn name_at<'a>(names: &[&'a str], sub: u32) -> &'a str
 // The line of a range with the name of its subroutine.
 fn put_point<S: Sink>(name: &str, range: &PointRange, out: &mut Pieces<'_, S>) -> Put
     ensures same_sink { HaveSameSink out.old out.new }
-    ensures passes { Passes (S.written (sink_of out.old)) (pending out.old) (S.written (sink_of out.new)) (pending out.new) (point_text name.now range.now) result }
+    ensures passes { Passes (S.written (sink_of out.old)) (pending out.old)
+        (S.written (sink_of out.new)) (pending out.new) (point_text name.now range.now) result }
     ensures counts { CountsPut (S.faults (sink_of out.old)) (S.faults (sink_of out.new)) result }
 {
     let mut from = Buffer::new();
@@ -44,7 +45,9 @@ fn put_point<S: Sink>(name: &str, range: &PointRange, out: &mut Pieces<'_, S>) -
 // The lines of the points.
 fn put_points<S: Sink>(names: &[&str], points: &[PointRange], out: &mut Pieces<'_, S>) -> Put
     ensures same_sink { HaveSameSink out.old out.new }
-    ensures passes { Passes (S.written (sink_of out.old)) (pending out.old) (S.written (sink_of out.new)) (pending out.new) (flat_map (point_line (map (λ n. n.now) names.now)) points.now) result }
+    ensures passes { Passes (S.written (sink_of out.old))
+        (pending out.old) (S.written (sink_of out.new)) (pending out.new)
+        (flat_map (point_line (map (λ n. n.now) names.now)) points.now) result }
     ensures counts { CountsPut (S.faults (sink_of out.old)) (S.faults (sink_of out.new)) result }
 {
     for range in points {
@@ -59,7 +62,8 @@ fn put_points<S: Sink>(names: &[&str], points: &[PointRange], out: &mut Pieces<'
 // The line of a commit.
 fn put_commit<S: Sink>(address: u16, out: &mut Pieces<'_, S>) -> Put
     ensures same_sink { HaveSameSink out.old out.new }
-    ensures passes { Passes (S.written (sink_of out.old)) (pending out.old) (S.written (sink_of out.new)) (pending out.new) (commit_line address) result }
+    ensures passes { Passes (S.written (sink_of out.old)) (pending out.old)
+        (S.written (sink_of out.new)) (pending out.new) (commit_line address) result }
     ensures counts { CountsPut (S.faults (sink_of out.old)) (S.faults (sink_of out.new)) result }
 {
     let mut digits = Buffer::new();
@@ -69,7 +73,8 @@ fn put_commit<S: Sink>(address: u16, out: &mut Pieces<'_, S>) -> Put
 /// The lines of commits.
 pub fn put_commits<S: Sink>(commits: &[u16], out: &mut Pieces<'_, S>) -> Put
     ensures same_sink { HaveSameSink out.old out.new }
-    ensures passes { Passes (S.written (sink_of out.old)) (pending out.old) (S.written (sink_of out.new)) (pending out.new) (flat_map commit_line commits.now) result }
+    ensures passes { Passes (S.written (sink_of out.old)) (pending out.old)
+        (S.written (sink_of out.new)) (pending out.new) (flat_map commit_line commits.now) result }
     ensures counts { CountsPut (S.faults (sink_of out.old)) (S.faults (sink_of out.new)) result }
 {
     for address in commits {
@@ -84,7 +89,8 @@ pub fn put_commits<S: Sink>(commits: &[u16], out: &mut Pieces<'_, S>) -> Put
 // The line of a routine.
 fn put_range<S: Sink>(range: (u32, u32), out: &mut Pieces<'_, S>) -> Put
     ensures same_sink { HaveSameSink out.old out.new }
-    ensures passes { Passes (S.written (sink_of out.old)) (pending out.old) (S.written (sink_of out.new)) (pending out.new) (shared_line range) result }
+    ensures passes { Passes (S.written (sink_of out.old)) (pending out.old)
+        (S.written (sink_of out.new)) (pending out.new) (shared_line range) result }
     ensures counts { CountsPut (S.faults (sink_of out.old)) (S.faults (sink_of out.new)) result }
 {
     let mut from = Buffer::new();
@@ -101,7 +107,8 @@ fn put_range<S: Sink>(range: (u32, u32), out: &mut Pieces<'_, S>) -> Put
 /// The lines of routines that commands share.
 pub fn put_shared<S: Sink>(shared: &[(u32, u32)], out: &mut Pieces<'_, S>) -> Put
     ensures same_sink { HaveSameSink out.old out.new }
-    ensures passes { Passes (S.written (sink_of out.old)) (pending out.old) (S.written (sink_of out.new)) (pending out.new) (flat_map shared_line shared.now) result }
+    ensures passes { Passes (S.written (sink_of out.old)) (pending out.old)
+        (S.written (sink_of out.new)) (pending out.new) (flat_map shared_line shared.now) result }
     ensures counts { CountsPut (S.faults (sink_of out.old)) (S.faults (sink_of out.new)) result }
 {
     for range in shared {
@@ -116,7 +123,9 @@ pub fn put_shared<S: Sink>(shared: &[(u32, u32)], out: &mut Pieces<'_, S>) -> Pu
 // All lines.
 fn put_lines<S: Sink>(names: &[&str], mapping: &ImageMap, out: &mut Pieces<'_, S>) -> Put
     ensures same_sink { HaveSameSink out.old out.new }
-    ensures passes { Passes (S.written (sink_of out.old)) (pending out.old) (S.written (sink_of out.new)) (pending out.new) (map_text (map (λ n. n.now) names.now) mapping.now) result }
+    ensures passes { Passes (S.written (sink_of out.old))
+        (pending out.old) (S.written (sink_of out.new)) (pending out.new)
+        (map_text (map (λ n. n.now) names.now) mapping.now) result }
     ensures counts { CountsPut (S.faults (sink_of out.old)) (S.faults (sink_of out.new)) result }
 {
     match out.put(b"map 1\n") {
@@ -137,7 +146,8 @@ fn put_lines<S: Sink>(names: &[&str], mapping: &ImageMap, out: &mut Pieces<'_, S
 fn put_map<S: Sink>(names: &[&str], mapping: &ImageMap, out: &mut Pieces<'_, S>) -> Put
     requires { pending out.old ≡ [] }
     ensures same_sink { HaveSameSink out.old out.new }
-    ensures put { Puts (S.written (sink_of out.old)) (S.written (sink_of out.new)) (map_text (map (λ n. n.now) names.now) mapping.now) result }
+    ensures put { Puts (S.written (sink_of out.old)) (S.written (sink_of out.new))
+        (map_text (map (λ n. n.now) names.now) mapping.now) result }
     ensures counts { CountsPut (S.faults (sink_of out.old)) (S.faults (sink_of out.new)) result }
 {
     match put_lines(names, mapping, out) {
@@ -149,7 +159,8 @@ fn put_map<S: Sink>(names: &[&str], mapping: &ImageMap, out: &mut Pieces<'_, S>)
 /// Puts the map of an image. It has a line for each range of points, with the name of its subroutine, one for each commit, and one for each
 /// routine that commands share.
 pub fn show_map<S: Sink>(names: &[&str], mapping: &ImageMap, out: &mut S) -> Put
-    ensures put { Puts (S.written out.old) (S.written out.new) (map_text (map (λ n. n.now) names.now) mapping.now) result }
+    ensures put { Puts (S.written out.old) (S.written out.new)
+        (map_text (map (λ n. n.now) names.now) mapping.now) result }
     ensures counts { CountsPut (S.faults out.old) (S.faults out.new) result }
 {
     let mut pieces = Pieces::new(out);

@@ -62,7 +62,8 @@ fn no_marks(alloc: Global, n: usize) -> Result<Vec<bool>, AllocError>
 // A mark at each of these addresses.
 fn marks(alloc: Global, commits: &[u16]) -> Result<Vec<bool>, AllocError>
     ensures size { IfOk result (λ marks. length marks.items ≡ 65536) }
-    ensures marked { IfOk result (λ marks. (k : ℕ) → slice_index_or marks.items k false ≡ list_any (nat_eq k) commits.now) }
+    ensures marked { IfOk result
+        (λ marks. (k : ℕ) → slice_index_or marks.items k false ≡ list_any (nat_eq k) commits.now) }
 {
     let mut marks = no_marks(alloc, 65536)?;
     for at in commits {

@@ -16,7 +16,9 @@ use outer_world::{Name, Pieces, Put, Sink};
 // The line of a range of points, with the names of their subroutine and of its file.
 fn put_point<S: Sink>(name: &str, file: &str, range: &PlacedRange, out: &mut Pieces<'_, S>) -> Put
     ensures same_sink { HaveSameSink out.old out.new }
-    ensures passes { Passes (S.written (sink_of out.old)) (pending out.old) (S.written (sink_of out.new)) (pending out.new) (point_text name.now file.now range.now) result }
+    ensures passes { Passes (S.written (sink_of out.old))
+        (pending out.old) (S.written (sink_of out.new)) (pending out.new)
+        (point_text name.now file.now range.now) result }
     ensures counts { CountsPut (S.faults (sink_of out.old)) (S.faults (sink_of out.new)) result }
 {
     let mut from = Buffer::new();
@@ -46,7 +48,8 @@ fn put_point<S: Sink>(name: &str, file: &str, range: &PlacedRange, out: &mut Pie
 // The same by its places.
 fn put_range<S: Sink>(places: &Places, range: &PlacedRange, out: &mut Pieces<'_, S>) -> Put
     ensures same_sink { HaveSameSink out.old out.new }
-    ensures passes { Passes (S.written (sink_of out.old)) (pending out.old) (S.written (sink_of out.new)) (pending out.new) (point_line places.now range.now) result }
+    ensures passes { Passes (S.written (sink_of out.old)) (pending out.old)
+        (S.written (sink_of out.new)) (pending out.new) (point_line places.now range.now) result }
     ensures counts { CountsPut (S.faults (sink_of out.old)) (S.faults (sink_of out.new)) result }
 {
     let name = places.name(range.point.sub);
@@ -57,7 +60,9 @@ fn put_range<S: Sink>(places: &Places, range: &PlacedRange, out: &mut Pieces<'_,
 // The lines of the points.
 fn put_points<S: Sink>(places: &Places, ranges: &[PlacedRange], out: &mut Pieces<'_, S>) -> Put
     ensures same_sink { HaveSameSink out.old out.new }
-    ensures passes { Passes (S.written (sink_of out.old)) (pending out.old) (S.written (sink_of out.new)) (pending out.new) (flat_map (point_line places.now) ranges.now) result }
+    ensures passes { Passes (S.written (sink_of out.old))
+        (pending out.old) (S.written (sink_of out.new)) (pending out.new)
+        (flat_map (point_line places.now) ranges.now) result }
     ensures counts { CountsPut (S.faults (sink_of out.old)) (S.faults (sink_of out.new)) result }
 {
     for range in ranges {
@@ -78,7 +83,9 @@ fn put_variable<'a, S: Sink>(
     out: &mut Pieces<'_, S>,
 ) -> Put
     ensures same_sink { HaveSameSink out.old out.new }
-    ensures passes { Passes (S.written (sink_of out.old)) (pending out.old) (S.written (sink_of out.new)) (pending out.new) (variable_line sub.now kind.now k name.now) result }
+    ensures passes { Passes (S.written (sink_of out.old))
+        (pending out.old) (S.written (sink_of out.new)) (pending out.new)
+        (variable_line sub.now kind.now k name.now) result }
     ensures counts { CountsPut (S.faults (sink_of out.old)) (S.faults (sink_of out.new)) result }
 {
     let mut index = Buffer::new();
@@ -99,7 +106,9 @@ fn put_variables<'a, S: Sink>(
 ) -> Put
     requires { first ≤ 1 }
     ensures same_sink { HaveSameSink out.old out.new }
-    ensures passes { Passes (S.written (sink_of out.old)) (pending out.old) (S.written (sink_of out.new)) (pending out.new) (variable_lines sub.now kind.now first names.now) result }
+    ensures passes { Passes (S.written (sink_of out.old))
+        (pending out.old) (S.written (sink_of out.new)) (pending out.new)
+        (variable_lines sub.now kind.now first names.now) result }
     ensures counts { CountsPut (S.faults (sink_of out.old)) (S.faults (sink_of out.new)) result }
 {
     for (i, name) in names.iter().enumerate() {
@@ -131,7 +140,9 @@ fn put_counts<S: Sink>(
     out: &mut Pieces<'_, S>,
 ) -> Put
     ensures same_sink { HaveSameSink out.old out.new }
-    ensures passes { Passes (S.written (sink_of out.old)) (pending out.old) (S.written (sink_of out.new)) (pending out.new) (sub_text name.now form.now arguments locals) result }
+    ensures passes { Passes (S.written (sink_of out.old))
+        (pending out.old) (S.written (sink_of out.new)) (pending out.new)
+        (sub_text name.now form.now arguments locals) result }
     ensures counts { CountsPut (S.faults (sink_of out.old)) (S.faults (sink_of out.new)) result }
 {
     let mut first = Buffer::new();
@@ -152,7 +163,8 @@ fn put_counts<S: Sink>(
 // The line of a subroutine.
 fn put_sub_line<S: Sink>(sub: &SubPlaces, out: &mut Pieces<'_, S>) -> Put
     ensures same_sink { HaveSameSink out.old out.new }
-    ensures passes { Passes (S.written (sink_of out.old)) (pending out.old) (S.written (sink_of out.new)) (pending out.new) (sub_line sub.now) result }
+    ensures passes { Passes (S.written (sink_of out.old)) (pending out.old)
+        (S.written (sink_of out.new)) (pending out.new) (sub_line sub.now) result }
     ensures counts { CountsPut (S.faults (sink_of out.old)) (S.faults (sink_of out.new)) result }
 {
     let form = form_word(sub.form);
@@ -165,7 +177,8 @@ fn put_sub_line<S: Sink>(sub: &SubPlaces, out: &mut Pieces<'_, S>) -> Put
 // The lines of a subroutine and its variables.
 fn put_sub<S: Sink>(sub: &SubPlaces, out: &mut Pieces<'_, S>) -> Put
     ensures same_sink { HaveSameSink out.old out.new }
-    ensures passes { Passes (S.written (sink_of out.old)) (pending out.old) (S.written (sink_of out.new)) (pending out.new) (sub_lines sub.now) result }
+    ensures passes { Passes (S.written (sink_of out.old)) (pending out.old)
+        (S.written (sink_of out.new)) (pending out.new) (sub_lines sub.now) result }
     ensures counts { CountsPut (S.faults (sink_of out.old)) (S.faults (sink_of out.new)) result }
 {
     match put_sub_line(sub, out) {
@@ -183,7 +196,9 @@ fn put_sub<S: Sink>(sub: &SubPlaces, out: &mut Pieces<'_, S>) -> Put
 // The lines of the subroutine of a number.
 fn put_sub_at<S: Sink>(places: &Places, number: u32, out: &mut Pieces<'_, S>) -> Put
     ensures same_sink { HaveSameSink out.old out.new }
-    ensures passes { Passes (S.written (sink_of out.old)) (pending out.old) (S.written (sink_of out.new)) (pending out.new) (lines_of_sub (sub_at places.now number)) result }
+    ensures passes { Passes (S.written (sink_of out.old))
+        (pending out.old) (S.written (sink_of out.new)) (pending out.new)
+        (lines_of_sub (sub_at places.now number)) result }
     ensures counts { CountsPut (S.faults (sink_of out.old)) (S.faults (sink_of out.new)) result }
 {
     match places.sub(number) {
@@ -195,7 +210,9 @@ fn put_sub_at<S: Sink>(places: &Places, number: u32, out: &mut Pieces<'_, S>) ->
 // The lines of the linked subroutines.
 fn put_subs<S: Sink>(places: &Places, linked: &[u32], out: &mut Pieces<'_, S>) -> Put
     ensures same_sink { HaveSameSink out.old out.new }
-    ensures passes { Passes (S.written (sink_of out.old)) (pending out.old) (S.written (sink_of out.new)) (pending out.new) (flat_map (λ k. lines_of_sub (sub_at places.now k)) linked.now) result }
+    ensures passes { Passes (S.written (sink_of out.old))
+        (pending out.old) (S.written (sink_of out.new)) (pending out.new)
+        (flat_map (λ k. lines_of_sub (sub_at places.now k)) linked.now) result }
     ensures counts { CountsPut (S.faults (sink_of out.old)) (S.faults (sink_of out.new)) result }
 {
     for number in linked {
@@ -210,7 +227,8 @@ fn put_subs<S: Sink>(places: &Places, linked: &[u32], out: &mut Pieces<'_, S>) -
 // The line of a field.
 fn put_field<S: Sink>(class: &Name, k: usize, name: &Name, out: &mut Pieces<'_, S>) -> Put
     ensures same_sink { HaveSameSink out.old out.new }
-    ensures passes { Passes (S.written (sink_of out.old)) (pending out.old) (S.written (sink_of out.new)) (pending out.new) (field_line class.now k name.now) result }
+    ensures passes { Passes (S.written (sink_of out.old)) (pending out.old)
+        (S.written (sink_of out.new)) (pending out.new) (field_line class.now k name.now) result }
     ensures counts { CountsPut (S.faults (sink_of out.old)) (S.faults (sink_of out.new)) result }
 {
     let mut index = Buffer::new();
@@ -229,7 +247,8 @@ fn put_field<S: Sink>(class: &Name, k: usize, name: &Name, out: &mut Pieces<'_, 
 // The lines of the fields of a class.
 fn put_fields<S: Sink>(class: &Name, names: &[Name], out: &mut Pieces<'_, S>) -> Put
     ensures same_sink { HaveSameSink out.old out.new }
-    ensures passes { Passes (S.written (sink_of out.old)) (pending out.old) (S.written (sink_of out.new)) (pending out.new) (field_lines class.now 0 names.now) result }
+    ensures passes { Passes (S.written (sink_of out.old)) (pending out.old)
+        (S.written (sink_of out.new)) (pending out.new) (field_lines class.now 0 names.now) result }
     ensures counts { CountsPut (S.faults (sink_of out.old)) (S.faults (sink_of out.new)) result }
 {
     for (k, name) in names.iter().enumerate() {
@@ -249,7 +268,9 @@ fn put_word<S: Sink>(
     out: &mut Pieces<'_, S>,
 ) -> Put
     ensures same_sink { HaveSameSink out.old out.new }
-    ensures passes { Passes (S.written (sink_of out.old)) (pending out.old) (S.written (sink_of out.new)) (pending out.new) (word_line class.now name.now address) result }
+    ensures passes { Passes (S.written (sink_of out.old))
+        (pending out.old) (S.written (sink_of out.new)) (pending out.new)
+        (word_line class.now name.now address) result }
     ensures counts { CountsPut (S.faults (sink_of out.old)) (S.faults (sink_of out.new)) result }
 {
     match address {
@@ -273,7 +294,9 @@ fn put_word<S: Sink>(
 // The lines of the statics of a class.
 fn put_statics<S: Sink>(class: &Name, statics: &[PlacedStatic], out: &mut Pieces<'_, S>) -> Put
     ensures same_sink { HaveSameSink out.old out.new }
-    ensures passes { Passes (S.written (sink_of out.old)) (pending out.old) (S.written (sink_of out.new)) (pending out.new) (flat_map (static_line class.now) statics.now) result }
+    ensures passes { Passes (S.written (sink_of out.old))
+        (pending out.old) (S.written (sink_of out.new)) (pending out.new)
+        (flat_map (static_line class.now) statics.now) result }
     ensures counts { CountsPut (S.faults (sink_of out.old)) (S.faults (sink_of out.new)) result }
 {
     for variable in statics {
@@ -288,7 +311,8 @@ fn put_statics<S: Sink>(class: &Name, statics: &[PlacedStatic], out: &mut Pieces
 // The lines of a class.
 fn put_class<S: Sink>(class: &ClassPlaces, out: &mut Pieces<'_, S>) -> Put
     ensures same_sink { HaveSameSink out.old out.new }
-    ensures passes { Passes (S.written (sink_of out.old)) (pending out.old) (S.written (sink_of out.new)) (pending out.new) (class_lines class.now) result }
+    ensures passes { Passes (S.written (sink_of out.old)) (pending out.old)
+        (S.written (sink_of out.new)) (pending out.new) (class_lines class.now) result }
     ensures counts { CountsPut (S.faults (sink_of out.old)) (S.faults (sink_of out.new)) result }
 {
     match put_fields(&class.name, class.fields.as_slice(), out) {
@@ -300,7 +324,9 @@ fn put_class<S: Sink>(class: &ClassPlaces, out: &mut Pieces<'_, S>) -> Put
 // The lines of the class of a number.
 fn put_class_at<S: Sink>(places: &Places, k: u32, out: &mut Pieces<'_, S>) -> Put
     ensures same_sink { HaveSameSink out.old out.new }
-    ensures passes { Passes (S.written (sink_of out.old)) (pending out.old) (S.written (sink_of out.new)) (pending out.new) (lines_of_class (slice_get places.now.classes k)) result }
+    ensures passes { Passes (S.written (sink_of out.old))
+        (pending out.old) (S.written (sink_of out.new)) (pending out.new)
+        (lines_of_class (slice_get places.now.classes k)) result }
     ensures counts { CountsPut (S.faults (sink_of out.old)) (S.faults (sink_of out.new)) result }
 {
     match places.class(k) {
@@ -312,7 +338,9 @@ fn put_class_at<S: Sink>(places: &Places, k: u32, out: &mut Pieces<'_, S>) -> Pu
 // The lines of these classes.
 fn put_classes<S: Sink>(places: &Places, by_name: &[u32], out: &mut Pieces<'_, S>) -> Put
     ensures same_sink { HaveSameSink out.old out.new }
-    ensures passes { Passes (S.written (sink_of out.old)) (pending out.old) (S.written (sink_of out.new)) (pending out.new) (flat_map (λ k. lines_of_class (slice_get places.now.classes k)) by_name.now) result }
+    ensures passes { Passes (S.written (sink_of out.old))
+        (pending out.old) (S.written (sink_of out.new)) (pending out.new)
+        (flat_map (λ k. lines_of_class (slice_get places.now.classes k)) by_name.now) result }
     ensures counts { CountsPut (S.faults (sink_of out.old)) (S.faults (sink_of out.new)) result }
 {
     for k in by_name {
@@ -327,7 +355,8 @@ fn put_classes<S: Sink>(places: &Places, by_name: &[u32], out: &mut Pieces<'_, S
 // The lines of the image.
 fn put_image_lines<S: Sink>(places: &Places, out: &mut Pieces<'_, S>) -> Put
     ensures same_sink { HaveSameSink out.old out.new }
-    ensures passes { Passes (S.written (sink_of out.old)) (pending out.old) (S.written (sink_of out.new)) (pending out.new) (image_lines places.now) result }
+    ensures passes { Passes (S.written (sink_of out.old)) (pending out.old)
+        (S.written (sink_of out.new)) (pending out.new) (image_lines places.now) result }
     ensures counts { CountsPut (S.faults (sink_of out.old)) (S.faults (sink_of out.new)) result }
 {
     match put_points(places, places.ranges.as_slice(), out) {
@@ -343,7 +372,8 @@ fn put_image_lines<S: Sink>(places: &Places, out: &mut Pieces<'_, S>) -> Put
 // The lines of the program.
 fn put_program_lines<S: Sink>(places: &Places, out: &mut Pieces<'_, S>) -> Put
     ensures same_sink { HaveSameSink out.old out.new }
-    ensures passes { Passes (S.written (sink_of out.old)) (pending out.old) (S.written (sink_of out.new)) (pending out.new) (program_lines places.now) result }
+    ensures passes { Passes (S.written (sink_of out.old)) (pending out.old)
+        (S.written (sink_of out.new)) (pending out.new) (program_lines places.now) result }
     ensures counts { CountsPut (S.faults (sink_of out.old)) (S.faults (sink_of out.new)) result }
 {
     match put_subs(places, places.linked.as_slice(), out) {
@@ -355,7 +385,8 @@ fn put_program_lines<S: Sink>(places: &Places, out: &mut Pieces<'_, S>) -> Put
 // All lines.
 fn put_all_lines<S: Sink>(places: &Places, out: &mut Pieces<'_, S>) -> Put
     ensures same_sink { HaveSameSink out.old out.new }
-    ensures passes { Passes (S.written (sink_of out.old)) (pending out.old) (S.written (sink_of out.new)) (pending out.new) (map_text places.now) result }
+    ensures passes { Passes (S.written (sink_of out.old)) (pending out.old)
+        (S.written (sink_of out.new)) (pending out.new) (map_text places.now) result }
     ensures counts { CountsPut (S.faults (sink_of out.old)) (S.faults (sink_of out.new)) result }
 {
     match out.put(b"map 2\n") {
@@ -372,7 +403,8 @@ fn put_all_lines<S: Sink>(places: &Places, out: &mut Pieces<'_, S>) -> Put
 fn put_map<S: Sink>(places: &Places, out: &mut Pieces<'_, S>) -> Put
     requires { pending out.old ≡ [] }
     ensures same_sink { HaveSameSink out.old out.new }
-    ensures put { Puts (S.written (sink_of out.old)) (S.written (sink_of out.new)) (map_text places.now) result }
+    ensures put { Puts (S.written (sink_of out.old)) (S.written (sink_of out.new))
+        (map_text places.now) result }
     ensures counts { CountsPut (S.faults (sink_of out.old)) (S.faults (sink_of out.new)) result }
 {
     match put_all_lines(places, out) {

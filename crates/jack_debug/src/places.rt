@@ -103,7 +103,8 @@ impl Places {
 
     /// The subroutine of a number, where it has variables: `start`, which is 0, has none.
     pub fn sub(&self, number: u32) -> Option<&SubPlaces>
-        ensures { MatchOption result (sub_at self.now number ≡ None) (λ s. sub_at self.now number ≡ Some s.now) }
+        ensures { MatchOption result (sub_at self.now number ≡ None)
+            (λ s. sub_at self.now number ≡ Some s.now) }
     {
         if number == 0 {
             return None;
@@ -123,7 +124,8 @@ impl Places {
 
     /// The class of a number, where there is one.
     pub fn class(&self, k: u32) -> Option<&ClassPlaces>
-        ensures { MatchOption result (slice_get self.now.classes k ≡ None) (λ c. slice_get self.now.classes k ≡ Some c.now) }
+        ensures { MatchOption result (slice_get self.now.classes k ≡ None)
+            (λ c. slice_get self.now.classes k ≡ Some c.now) }
     {
         self.classes.as_slice().get(k as usize)
     }

@@ -12,7 +12,8 @@ use outer_world::{Pieces, Put, Sink};
 // The line of `this`.
 fn put_this<S: Sink>(word: u16, out: &mut Pieces<'_, S>) -> Put
     ensures same_sink { HaveSameSink out.old out.new }
-    ensures passes { Passes (S.written (sink_of out.old)) (pending out.old) (S.written (sink_of out.new)) (pending out.new) (this_line word) result }
+    ensures passes { Passes (S.written (sink_of out.old)) (pending out.old)
+        (S.written (sink_of out.new)) (pending out.new) (this_line word) result }
     ensures counts { CountsPut (S.faults (sink_of out.old)) (S.faults (sink_of out.new)) result }
 {
     let mut digits = Buffer::new();
@@ -27,7 +28,8 @@ fn put_this<S: Sink>(word: u16, out: &mut Pieces<'_, S>) -> Put
 // The same where there is one.
 fn put_this_lines<S: Sink>(this: Option<u16>, out: &mut Pieces<'_, S>) -> Put
     ensures same_sink { HaveSameSink out.old out.new }
-    ensures passes { Passes (S.written (sink_of out.old)) (pending out.old) (S.written (sink_of out.new)) (pending out.new) (this_lines this) result }
+    ensures passes { Passes (S.written (sink_of out.old)) (pending out.old)
+        (S.written (sink_of out.new)) (pending out.new) (this_lines this) result }
     ensures counts { CountsPut (S.faults (sink_of out.old)) (S.faults (sink_of out.new)) result }
 {
     match this {
@@ -39,7 +41,9 @@ fn put_this_lines<S: Sink>(this: Option<u16>, out: &mut Pieces<'_, S>) -> Put
 // The line of a variable.
 fn put_variable<S: Sink>(what: &[u8], variable: &Variable, out: &mut Pieces<'_, S>) -> Put
     ensures same_sink { HaveSameSink out.old out.new }
-    ensures passes { Passes (S.written (sink_of out.old)) (pending out.old) (S.written (sink_of out.new)) (pending out.new) (variable_line what.now variable.now) result }
+    ensures passes { Passes (S.written (sink_of out.old))
+        (pending out.old) (S.written (sink_of out.new)) (pending out.new)
+        (variable_line what.now variable.now) result }
     ensures counts { CountsPut (S.faults (sink_of out.old)) (S.faults (sink_of out.new)) result }
 {
     let mut digits = Buffer::new();
@@ -56,7 +60,9 @@ fn put_variable<S: Sink>(what: &[u8], variable: &Variable, out: &mut Pieces<'_, 
 // The lines of variables.
 fn put_variables<S: Sink>(what: &[u8], variables: &[Variable], out: &mut Pieces<'_, S>) -> Put
     ensures same_sink { HaveSameSink out.old out.new }
-    ensures passes { Passes (S.written (sink_of out.old)) (pending out.old) (S.written (sink_of out.new)) (pending out.new) (flat_map (variable_line what.now) variables.now) result }
+    ensures passes { Passes (S.written (sink_of out.old))
+        (pending out.old) (S.written (sink_of out.new)) (pending out.new)
+        (flat_map (variable_line what.now) variables.now) result }
     ensures counts { CountsPut (S.faults (sink_of out.old)) (S.faults (sink_of out.new)) result }
 {
     for variable in variables {
@@ -71,7 +77,8 @@ fn put_variables<S: Sink>(what: &[u8], variables: &[Variable], out: &mut Pieces<
 // The line of a caller.
 fn put_caller<S: Sink>(caller: &Caller, out: &mut Pieces<'_, S>) -> Put
     ensures same_sink { HaveSameSink out.old out.new }
-    ensures passes { Passes (S.written (sink_of out.old)) (pending out.old) (S.written (sink_of out.new)) (pending out.new) (caller_line caller.now) result }
+    ensures passes { Passes (S.written (sink_of out.old)) (pending out.old)
+        (S.written (sink_of out.new)) (pending out.new) (caller_line caller.now) result }
     ensures counts { CountsPut (S.faults (sink_of out.old)) (S.faults (sink_of out.new)) result }
 {
     let mut digits = Buffer::new();
@@ -87,7 +94,8 @@ fn put_caller<S: Sink>(caller: &Caller, out: &mut Pieces<'_, S>) -> Put
 // The lines of callers.
 fn put_callers<S: Sink>(callers: &[Caller], out: &mut Pieces<'_, S>) -> Put
     ensures same_sink { HaveSameSink out.old out.new }
-    ensures passes { Passes (S.written (sink_of out.old)) (pending out.old) (S.written (sink_of out.new)) (pending out.new) (flat_map caller_line callers.now) result }
+    ensures passes { Passes (S.written (sink_of out.old)) (pending out.old)
+        (S.written (sink_of out.new)) (pending out.new) (flat_map caller_line callers.now) result }
     ensures counts { CountsPut (S.faults (sink_of out.old)) (S.faults (sink_of out.new)) result }
 {
     for caller in callers {
@@ -102,7 +110,8 @@ fn put_callers<S: Sink>(callers: &[Caller], out: &mut Pieces<'_, S>) -> Put
 // The last line, where the stack did not lead down to `start`.
 fn put_lost<S: Sink>(lost: bool, out: &mut Pieces<'_, S>) -> Put
     ensures same_sink { HaveSameSink out.old out.new }
-    ensures passes { Passes (S.written (sink_of out.old)) (pending out.old) (S.written (sink_of out.new)) (pending out.new) (lost_line lost) result }
+    ensures passes { Passes (S.written (sink_of out.old)) (pending out.old)
+        (S.written (sink_of out.new)) (pending out.new) (lost_line lost) result }
     ensures counts { CountsPut (S.faults (sink_of out.old)) (S.faults (sink_of out.new)) result }
 {
     if lost {
@@ -115,7 +124,8 @@ fn put_lost<S: Sink>(lost: bool, out: &mut Pieces<'_, S>) -> Put
 // `this` and the variables.
 fn put_named<S: Sink>(view: &View, out: &mut Pieces<'_, S>) -> Put
     ensures same_sink { HaveSameSink out.old out.new }
-    ensures passes { Passes (S.written (sink_of out.old)) (pending out.old) (S.written (sink_of out.new)) (pending out.new) (variables_text view.now) result }
+    ensures passes { Passes (S.written (sink_of out.old)) (pending out.old)
+        (S.written (sink_of out.new)) (pending out.new) (variables_text view.now) result }
     ensures counts { CountsPut (S.faults (sink_of out.old)) (S.faults (sink_of out.new)) result }
 {
     match put_this_lines(view.this, out) {
@@ -135,7 +145,8 @@ fn put_named<S: Sink>(view: &View, out: &mut Pieces<'_, S>) -> Put
 // The callers and the last line.
 fn put_called<S: Sink>(view: &View, out: &mut Pieces<'_, S>) -> Put
     ensures same_sink { HaveSameSink out.old out.new }
-    ensures passes { Passes (S.written (sink_of out.old)) (pending out.old) (S.written (sink_of out.new)) (pending out.new) (callers_text view.now) result }
+    ensures passes { Passes (S.written (sink_of out.old)) (pending out.old)
+        (S.written (sink_of out.new)) (pending out.new) (callers_text view.now) result }
     ensures counts { CountsPut (S.faults (sink_of out.old)) (S.faults (sink_of out.new)) result }
 {
     match put_callers(view.callers.as_slice(), out) {
@@ -147,7 +158,8 @@ fn put_called<S: Sink>(view: &View, out: &mut Pieces<'_, S>) -> Put
 // All lines.
 fn put_lines<S: Sink>(view: &View, out: &mut Pieces<'_, S>) -> Put
     ensures same_sink { HaveSameSink out.old out.new }
-    ensures passes { Passes (S.written (sink_of out.old)) (pending out.old) (S.written (sink_of out.new)) (pending out.new) (view_text view.now) result }
+    ensures passes { Passes (S.written (sink_of out.old)) (pending out.old)
+        (S.written (sink_of out.new)) (pending out.new) (view_text view.now) result }
     ensures counts { CountsPut (S.faults (sink_of out.old)) (S.faults (sink_of out.new)) result }
 {
     match put_named(view, out) {
@@ -160,7 +172,8 @@ fn put_lines<S: Sink>(view: &View, out: &mut Pieces<'_, S>) -> Put
 fn put_view<S: Sink>(view: &View, out: &mut Pieces<'_, S>) -> Put
     requires { pending out.old ≡ [] }
     ensures same_sink { HaveSameSink out.old out.new }
-    ensures put { Puts (S.written (sink_of out.old)) (S.written (sink_of out.new)) (view_text view.now) result }
+    ensures put { Puts (S.written (sink_of out.old)) (S.written (sink_of out.new))
+        (view_text view.now) result }
     ensures counts { CountsPut (S.faults (sink_of out.old)) (S.faults (sink_of out.new)) result }
 {
     match put_lines(view, out) {

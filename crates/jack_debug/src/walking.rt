@@ -20,7 +20,8 @@ fn variables<W: Words>(
 ) -> Result<List<Variable>, AllocError>
     requires base { base < 2 ^ 16 }
     requires first { first < 2 }
-    ensures { IfOk result (λ shown. shown ≡ variables_from (λ k. if unmade then 0 else word_at (W.words words.now) (base + k)) first names.now) }
+    ensures { IfOk result (λ shown. shown ≡ variables_from
+        (λ k. if unmade then 0 else word_at (W.words words.now) (base + k)) first names.now) }
 {
     let mut shown = List::new(alloc);
     for (i, name) in names.iter().enumerate() {
@@ -73,7 +74,8 @@ fn statics_at<W: Words>(
     classes: &[ClassPlaces],
     class: u32,
 ) -> Result<List<Variable>, AllocError>
-    ensures { IfOk result (λ shown. shown ≡ map (static_variable (W.words words.now)) (statics_of (slice_get classes.now class))) }
+    ensures { IfOk result (λ shown. shown
+        ≡ map (static_variable (W.words words.now)) (statics_of (slice_get classes.now class))) }
 {
     match classes.get(class as usize) {
         Some(class) => statics(alloc, words, class.statics.as_slice()),
@@ -94,7 +96,8 @@ fn callers<W: Words>(
     places: &Places,
     words: &W,
 ) -> Result<(List<Caller>, bool), AllocError>
-    ensures { IfOk result (λ found. Callers places.now (W.words words.now) 2052 (W.words words.now 1) found.0 found.1) }
+    ensures { IfOk result (λ found. Callers places.now (W.words words.now) 2052
+        (W.words words.now 1) found.0 found.1) }
 {
     let mut found = List::new(alloc);
     let mut above: u16 = 2052;

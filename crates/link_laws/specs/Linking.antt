@@ -1,5 +1,5 @@
--- What is wrong with a program that cannot be linked, each fault by itself, and which is reported. (The book, chapters 7 and
--- 8.)
+-- What is wrong with a program that cannot be linked, each fault by itself, and which is reported. (The book, chapters
+-- 7 and 8.)
 use Rattle.std.specs.Prelude.{◌≡◌, ℕ, suc, ◌+◌, ◌-◌, ◌^◌, ◌<◌, ◌≤◌, ◌⊎◌, ◌↔◌, Bool, true, false, List, Some, Result, Ok, Err, length, min}
 use Rattle.vm_tree.specs.declared.command.Line.{Line}
 use Rattle.vm_tree.specs.declared.command.Command.TheVariants as command
@@ -74,8 +74,8 @@ pub data HaveWords (kept : List Section) : ℕ → ℕ → Type 0 where
 
 -- ---- what is reported
 
--- Of the text first a function that is twice defined, then a label that stands twice, a label that is not there, and a missing start. Of each kind it
--- is the first in the order of the text.
+-- Of the text first a function that is twice defined, then a label that stands twice, a label that is not there, and a
+-- missing start. Of each kind it is the first in the order of the text.
 pub data TextFault (bare : Bool) (ss : List Section) : LinkFault → Type 0 where
   twice_defined : (s : Section) (name : List ℕ) → IsFirst IsDefinedBefore ss s → s.name ≡ Some name → TextFault bare ss (TwiceDefined name)
   label_twice : (s : Section) (x : Line) (name : List ℕ) → NoneIs IsDefinedBefore ss

@@ -1,5 +1,5 @@
-//! What linking a VM program comes to, in words of its functions, labels and statics: each fault by itself, and which is reported. No code, only
-//! laws.
+//! What linking a VM program comes to, in words of its functions, labels and statics: each fault by itself, and which
+//! is reported. No code, only laws.
 #![tactic(auto)]
 
 ghost use Rattle.link_laws.specs.Linking.{LinkingLaw};

@@ -27,14 +27,15 @@ abbrev slot_number : Option Declared → Option ℕ
 slot_number None = None
 slot_number (Some d) = static_of d.slot
 
--- The number of a static of one of these classes, before whose statics stand n others; none where no class has this name, or the class no such
--- static.
+-- The number of a static of one of these classes, before whose statics stand n others; none where no class has this
+-- name, or the class no such static.
 abbrev pub static_from : ℕ → List ClassFile → List ℕ → List ℕ → Option ℕ
 static_from n [] class name = None
 static_from n (c ∷ cs) class name =
     if bytes_eq class c.class.name.text then slot_number (find_value name (member_slots (λ x. None) 0 n c.class.variables)) else static_from (n + static_count c.class.variables) cs class name
 
--- One of the system's classes has this static, with this number: the system's statics come after those of the folder's classes.
+-- One of the system's classes has this static, with this number: the system's statics come after those of the folder's
+-- classes.
 abbrev pub IsStatic : {core : Core} → IsShipped core → List ℕ → List ℕ → ℕ → Type 0
 IsStatic p class name k = static_from (statics_in p.own) p.os class name ≡ Some k
 
@@ -61,8 +62,8 @@ pub record StaticLaws : Type 0 where
 abbrev pub CallsNext : {core : Core} → IsShipped core → List ℕ → List ℕ → State → List ℕ → Type 0
 CallsNext {core} p class name s values = NextCall (the_subroutines core) s (routine_number p class name) values
 
--- Under every key, from the call on, n steps lead to this state, which has as many frames as the first one. Before the last of them there are more:
--- the call has not come back.
+-- Under every key, from the call on, n steps lead to this state, which has as many frames as the first one. Before the
+-- last of them there are more: the call has not come back.
 pub record Returns (subs : List Subroutine) (s : State) (n : ℕ) (s' : State) : Type 0 where
   pub some : 0 < n
   pub leads : (keys : ℕ → ℕ) → after subs keys n s ≡ Some s'

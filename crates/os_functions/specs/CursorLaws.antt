@@ -1,4 +1,5 @@
--- The cursor: 23 rows of 64 cells, each 11 pixels high and 8 wide, two cells to a word of the screen (book, chapter 12).
+-- The cursor: 23 rows of 64 cells, each 11 pixels high and 8 wide, two cells to a word of the screen (book, chapter
+-- 12).
 use Rattle.std.specs.Prelude.{◌≤◌, ◌<◌, ◌+◌, ◌*◌, ◌/◌, ◌%◌, ◌^◌, ◌⊎◌, ℕ, List, [], ◌∷◌, codes, nat_eq, slice_set}
 use Rattle.word16.specs.Memory.{screen}
 use Rattle.word16.specs.Words.{truth}

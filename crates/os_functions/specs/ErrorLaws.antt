@@ -1,4 +1,5 @@
--- Strings and numbers printed; errors: the text ERR and the number are printed, and the program stands still (book, chapter 12).
+-- Strings and numbers printed; errors: the text ERR and the number are printed, and the program stands still (book,
+-- chapter 12).
 use Rattle.std.specs.Prelude.{◌≡◌, ◌≢◌, ◌≤◌, ◌<◌, ◌+◌, ◌-◌, ◌*◌, ◌^◌, nat_lt, ℕ, List, [], ◌∷◌, ◌++◌, codes, length, Some, slice_index, if◌then◌else◌, decimal}
 use Rattle.std.specs.List.{AllByRecursion}
 use Rattle.word16.specs.Memory.{heap, screen, heap_and_screen_size}
@@ -20,8 +21,8 @@ StandsStill subs s most statics words =
     (m : ℕ) × (m ≤ most)
     × ((keys : ℕ → ℕ) (n : ℕ) → m ≤ n → (t : State) × (after subs keys n s ≡ Some t) × (length s.frames < length t.frames) × (t.statics ≡ statics) × (t.words ≡ words))
 
--- Each of these characters has been drawn in its cell, the first one in this cell and each in the one after the last; the glyphs stand from `font`
--- on.
+-- Each of these characters has been drawn in its cell, the first one in this cell and each in the one after the last;
+-- the glyphs stand from `font` on.
 abbrev pub ShowsText : ℕ → List ℕ → ℕ → ℕ → List ℕ → List ℕ → Type 0
 ShowsText font words row column [] words' = words' ≡ words
 ShowsText font words row column (k ∷ ks) words' =

@@ -1,8 +1,8 @@
 -- The font: the shapes of the characters (book, chapter 12; the shapes are the system's own).
 use Rattle.std.specs.Prelude.{◌+◌, ◌-◌, ◌*◌, ◌/◌, ◌%◌, ℕ, List, [], ◌∷◌, codes, get_or, nat_eq, slice_index, if◌then◌else◌}
 
--- The characters 32 to 127, sixteen beside each other: each has five columns of seven dots, of which # is black. 127 stands for all codes that have
--- none.
+-- The characters 32 to 127, sixteen beside each other: each has five columns of seven dots, of which # is black. 127
+-- stands for all codes that have none.
 abbrev pub font_lines : List (List ℕ)
 font_lines =
     codes "..... ..#.. .#.#. .#.#. ..#.. ##... .##.. .##.. ...#. .#... ..... ..... ..... ..... ..... ....."

@@ -1,4 +1,5 @@
--- Lines: the points beside the true line between two ends (book, chapter 12; which points stand for it is the system's own rule).
+-- Lines: the points beside the true line between two ends (book, chapter 12; which points stand for it is the system's
+-- own rule).
 use Rattle.std.specs.Prelude.{◌≡◌, ◌≤◌, ◌<◌, ◌+◌, ◌-◌, ◌*◌, ◌^◌, ◌⊎◌, min, max, ℕ, List, [], ◌∷◌, codes, length}
 use Rattle.word16.specs.Memory.{heap_and_screen_size}
 use Rattle.jack_core.specs.declared.program.Core.{Core}
@@ -16,13 +17,13 @@ AreEnds x1 y1 x2 y2 = (x1 < 512) × (y1 < 256) × (x2 < 512) × (y2 < 256)
 abbrev pub distance : ℕ → ℕ → ℕ
 distance x y = (x - y) + (y - x)
 
--- Of a line that goes dx along x and dy along y, the point a along x and b along y. With a step less along x it is on the one side of the true line.
--- With one less along y it is on the other side, or on it.
+-- Of a line that goes dx along x and dy along y, the point a along x and b along y. With a step less along x it is on
+-- the one side of the true line. With one less along y it is on the other side, or on it.
 abbrev pub IsBeside : ℕ → ℕ → ℕ → ℕ → Type 0
 IsBeside dx dy a b = (a * dy < b * dx + dy) × (b * dx ≤ a * dy + dx)
 
--- The points of a line: those between its ends where it is level or upright, and else those of them that are beside the true line. Each is counted
--- from the first end.
+-- The points of a line: those between its ends where it is level or upright, and else those of them that are beside the
+-- true line. Each is counted from the first end.
 abbrev pub OnLine : ℕ → ℕ → ℕ → ℕ → ℕ → ℕ → Type 0
 OnLine x1 y1 x2 y2 x y =
     InRectangle (min x1 x2) (min y1 y2) (max x1 x2) (max y1 y2) x y

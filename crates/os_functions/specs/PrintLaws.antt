@@ -31,7 +31,8 @@ pub record IsCursorAt {core : Core} {p : IsShipped core} (h : HasStatics p) (sta
 abbrev pub shown_code : ℕ → ℕ
 shown_code c = if nat_lt c 32 then 127 else (if nat_lt 126 c then 127 else c)
 
--- A glyph has five columns of seven dots, two columns to a word, the left one lower, the top dot lowest. This is the dot of column i and row j.
+-- A glyph has five columns of seven dots, two columns to a word, the left one lower, the top dot lowest. This is the
+-- dot of column i and row j.
 abbrev pub glyph_dot : List ℕ → ℕ → ℕ → ℕ → ℕ
 glyph_dot words glyph i j = bit (word_at words (glyph + i / 2)) (7 * (i % 2) + j)
 
@@ -46,7 +47,8 @@ pub record HasGlyph {core : Core} {p : IsShipped core} (h : HasStatics p) (s : S
   pub inside : (heap ≤ glyph) × (glyph + 3 ≤ screen)
   pub words : length s.words ≡ heap_and_screen_size
 
--- The cell shows the glyph. No other pixel has changed, and no word of the heap. What was a word of 16 bits is one still.
+-- The cell shows the glyph. No other pixel has changed, and no word of the heap. What was a word of 16 bits is one
+-- still.
 pub record IsDrawn (words : List ℕ) (row column glyph : ℕ) (words' : List ℕ) : Type 0 where
   pub same_length : length words' ≡ length words
   pub cell : (i j : ℕ) → i < 8 → j < 11 → pixel words' (8 * column + i) (11 * row + j) ≡ cell_pixel words glyph i j
@@ -108,7 +110,8 @@ module _ {core : Core} (p : IsShipped core) (s : State) where
       → (c : CallsNext p (codes "Output") (codes "printChar") s (129 ∷ []))
       → Draws h c glyph (row_before row column) (column_before row column) (row_before row column) (column_before row column)
 
-  -- After a character a pixel can be drawn: wherever the words are those that printChar leaves, drawPixel has what it asks.
+  -- After a character a pixel can be drawn: wherever the words are those that printChar leaves, drawPixel has what it
+  -- asks.
   abbrev pub PixelBehindLaw : Type 0
   PixelBehindLaw =
       (h : HasStatics p) (row column k glyph x y : ℕ) → k < 2 ^ 16 → k ≢ 128 → k ≢ 129 → IsCursorAt h s.statics row column → HasGlyph h s k glyph

@@ -17,8 +17,8 @@ AreCorners x1 y1 x2 y2 = (x1 ≤ x2) × (x2 < 512) × (y1 ≤ y2) × (y2 < 256)
 abbrev pub InRectangle : ℕ → ℕ → ℕ → ℕ → ℕ → ℕ → Type 0
 InRectangle x1 y1 x2 y2 x y = (x1 ≤ x) × (x ≤ x2) × (y1 ≤ y) × (y ≤ y2)
 
--- These points of the screen have become 1 (black) or 0 (white). No other pixel has changed, and no word of the heap. What was a word of 16 bits is
--- one still.
+-- These points of the screen have become 1 (black) or 0 (white). No other pixel has changed, and no word of the heap.
+-- What was a word of 16 bits is one still.
 pub record IsColoured (words : List ℕ) (points : ℕ → ℕ → Type 0) (colour : ℕ) (words' : List ℕ) : Type 0 where
   pub same_length : length words' ≡ length words
   pub inside : (x y : ℕ) → x < 512 → y < 256 → points x y → pixel words' x y ≡ colour

@@ -1,4 +1,5 @@
--- The screen: 256 rows of 512 pixels, 32 words to a row, the lowest bit of a word leftmost (book, chapter 5), and one pixel drawn (chapter 12).
+-- The screen: 256 rows of 512 pixels, 32 words to a row, the lowest bit of a word leftmost (book, chapter 5), and one
+-- pixel drawn (chapter 12).
 use Rattle.std.specs.Prelude.{◌≡◌, ◌≢◌, ◌≤◌, ◌<◌, ◌+◌, ◌*◌, ◌/◌, ◌%◌, ◌^◌, ◌⊎◌, ℕ, true, List, [], ◌∷◌, codes, length, nat_eq, slice_index, slice_set, if◌then◌else◌}
 use Rattle.word16.specs.Memory.{heap, screen, heap_and_screen_size}
 use Rattle.word16.specs.Words.{truth}
@@ -13,7 +14,8 @@ use Rattle.os_functions.specs.Calls.{HasStatics, CallsNext, Leaves, Refuses}
 abbrev pub pixel_address : ℕ → ℕ → ℕ
 pixel_address x y = screen + 32 * y + x / 16
 
--- That bit of that word has become 1 (black) or 0 (white), and nothing else has changed. The word is one of 16 bits still.
+-- That bit of that word has become 1 (black) or 0 (white), and nothing else has changed. The word is one of 16 bits
+-- still.
 pub record IsPainted (words : List ℕ) (x y colour : ℕ) (words' : List ℕ) : Type 0 where
   pub same_length : length words' ≡ length words
   pub others : (a : ℕ) → heap ≤ a → a ≢ pixel_address x y → word_at words' a ≡ word_at words a

@@ -28,7 +28,8 @@ pub record IsAtMain {core : Core} (p : IsShipped core) (h : HasStatics p) (s : S
   -- of Sys.init's statements, which have no loop, the sixth waits; then comes the call of Sys.halt
   pub waits : init.text ≡ Next (Do 6 Open) (Next (Do 7 (Call (routine_number p (codes "Sys") (codes "halt")) NoMore)) (Next (Return 8 (Literal 0)) End))
   pub frames : s.frames ≡ new_frame (the_subroutines core) (routine_number p (codes "Main") (codes "main")) [] ∷ init ∷ start ∷ []
-  -- of the heap the font is in use, 288 words at the upper end; all else is one free part, of whose words but the first none is set
+  -- of the heap the font is in use, 288 words at the upper end; all else is one free part, of whose words but the first
+  -- none is set
   pub blocks : HasHeap s h.free (heap ∷ []) (record { place = screen - 288; words = 288 } ∷ [])
   pub free : word_at s.words heap ≡ screen - heap - 289
   pub unset : (a : ℕ) → heap < a → a < screen - 289 → word_at s.words a ≡ 0

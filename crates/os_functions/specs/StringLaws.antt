@@ -7,8 +7,9 @@ use Rattle.os_laws.specs.Heap.{word_at}
 use Rattle.os_laws.specs.Names.{IsShipped}
 use Rattle.os_functions.specs.Calls.{CallsNext, Gives, Leaves, Refuses}
 
--- At the address o the words have a string with these characters and room for this many. Its three words are the place of its characters, how many
--- there are, and how many there may be. They and the words of the characters lie in the heap, apart from each other.
+-- At the address o the words have a string with these characters and room for this many. Its three words are the place
+-- of its characters, how many there are, and how many there may be. They and the words of the characters lie in the
+-- heap, apart from each other.
 pub record StringAt (words : List ℕ) (o : ℕ) (text : List ℕ) (room : ℕ) : Type 0 where
   pub place : ℕ
   pub characters : word_at words o ≡ place

@@ -94,7 +94,7 @@ short_with : (ws : List ℕ) (n c : ℕ) (cs : List ℕ) → (passed_block ws n 
 short_with ws n c cs more true t e = (is_below _ _ t, more (mapped (passed_block ws n cs) e))
 short_with ws n c cs more false t e = absurd (some-none 0 e)
 
-all_short : (ws : List ℕ) (n : ℕ) (parts : List ℕ) → passed_block ws n parts ≡ None → AllByRecursion (λ q. word_at ws q < n) parts
+pub all_short : (ws : List ℕ) (n : ℕ) (parts : List ℕ) → passed_block ws n parts ≡ None → AllByRecursion (λ q. word_at ws q < n) parts
 all_short ws n [] e = tt
 all_short ws n (c ∷ cs) e = short_with ws n c cs (all_short ws n cs) (nat_lt (word_at ws c) n) refl e
 

@@ -26,8 +26,8 @@ after subs keys (suc n) s = option_and_then (after subs (λ i. keys (suc i)) n) 
 abbrev pub no_key : ℕ → ℕ
 no_key i = 0
 
--- Under every key, from the call on, n steps lead to this state. Before the last of them there is one frame more than at first: the call has not come
--- back, and what was called calls nothing itself.
+-- Under every key, from the call on, n steps lead to this state. Before the last of them there is one frame more than
+-- at first: the call has not come back, and what was called calls nothing itself.
 pub record ComesBack (subs : List Subroutine) (s : State) (n : ℕ) (s' : State) : Type 0 where
   pub some : 0 < n
   pub leads : (keys : ℕ → ℕ) → after subs keys n s ≡ Some s'
@@ -41,8 +41,8 @@ pub record Stops (subs : List Subroutine) (keys : ℕ → ℕ) (s : State) (fram
   pub there : length s'.frames ≡ frames
   pub before : (j : ℕ) → 0 < j → j < n → (t : State) × (after subs keys j s ≡ Some t) × (length t.frames ≢ frames)
 
--- Under every key, after n steps the call that was made makes one of its own, of the subroutine of this number with these values. Its frame waits,
--- and no static and no word has changed.
+-- Under every key, after n steps the call that was made makes one of its own, of the subroutine of this number with
+-- these values. Its frame waits, and no static and no word has changed.
 pub record ComesToCall {subs : List Subroutine} {s : State} {g : ℕ} {values : List ℕ} (c : NextCall subs s g values) (g' : ℕ) (values' : List ℕ) (n : ℕ) : Type 0 where
   pub callee : Frame
   pub stops : (keys : ℕ → ℕ) → Stops subs keys s (suc (suc (length s.frames))) n (record s { frames = new_frame subs g' values' ∷ callee ∷ c.caller ∷ c.below })

@@ -25,7 +25,8 @@ part_at words c = record { begin = c; size = word_at words c }
 abbrev pub part_of : List ℕ → Block → Part
 part_of words b = part_at words (b.place - 1)
 
--- From the address a on these places are linked, each to the next by the word after its first, and the last one to none.
+-- From the address a on these places are linked, each to the next by the word after its first, and the last one to
+-- none.
 abbrev pub Links : List ℕ → ℕ → List ℕ → Type 0
 Links words a [] = a ≡ 0
 Links words a (c ∷ cs) = (a ≡ c) × Links words (word_at words (c + 1)) cs
@@ -51,8 +52,8 @@ IsBlock words b = (1 ≤ b.place) × (1 ≤ b.words) × (b.words + 1 ≤ word_at
 abbrev pub parts_of : List ℕ → List ℕ → List Block → List Part
 parts_of words free live = map (part_at words) free ++ map (part_of words) live
 
--- The free parts are those that are linked from this address on, each of two words at least. They and the parts of the live blocks lie in the heap,
--- and no two of them overlap. (So no free part comes twice: DistinctLaw.)
+-- The free parts are those that are linked from this address on, each of two words at least. They and the parts of the
+-- live blocks lie in the heap, and no two of them overlap. (So no free part comes twice: DistinctLaw.)
 pub record HeapOf (words : List ℕ) (first : ℕ) (free : List ℕ) (live : List Block) : Type 0 where
   pub links : Links words first free
   pub long : AllByRecursion (λ c. 2 ≤ word_at words c) free

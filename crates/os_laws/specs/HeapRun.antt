@@ -14,7 +14,8 @@ pub record HeapNumbers : Type 0 where
   pub deAlloc : ℕ
   pub free : ℕ
 
--- A step has left the static `free` as it was. Of heap and screen at most one word has changed: one of a block in use, or of the screen.
+-- A step has left the static `free` as it was. Of heap and screen at most one word has changed: one of a block in use,
+-- or of the screen.
 pub record StoresWell (free : ℕ) (live : List Block) (s s' : State) : Type 0 where
   pub static : slice_index s'.statics free ≡ slice_index s.statics free
   pub statics : length s'.statics ≡ length s.statics

@@ -1,4 +1,5 @@
--- Calls of the kernel's routines that the next step of a state makes. The number g is that of the routine, `free` that of the static.
+-- Calls of the kernel's routines that the next step of a state makes. The number g is that of the routine, `free` that
+-- of the static.
 use Rattle.std.specs.Prelude.{◌≡◌, ◌≤◌, ◌<◌, ◌+◌, ◌^◌, ◌⊎◌, ℕ, List, [], ◌∷◌, ◌++◌, Some}
 use Rattle.jack_meaning.specs.Text.{Subroutine}
 use Rattle.jack_meaning.specs.Meaning.{State}
@@ -33,7 +34,8 @@ pub record Laying (subs : List Subroutine) (s : State) (g free : ℕ) : Type 0 w
   pub room : HasRoom s free
   pub call : NextCall subs s g []
 
--- A call of alloc with a size from 1 to 14335, over a heap in which the free part after the first k is the first that is long enough.
+-- A call of alloc with a size from 1 to 14335, over a heap in which the free part after the first k is the first that
+-- is long enough.
 pub record Allocating (subs : List Subroutine) (s : State) (g free : ℕ) : Type 0 where
   pub size : ℕ
   pub low : 1 ≤ size

@@ -17,7 +17,8 @@ MultiplyLaw =
     (subs : List Subroutine) (s : State) (g class : ℕ) → subroutine_at subs g ≡ multiply_meaning class
     → (c : Multiplying subs s g) → ComesBack subs s (multiply_steps c.y) (given_back s c.call.caller c.call.below (product c.x c.y))
 
--- A call of division by another number than 0 comes back with the quotient within 800 steps, and nothing else has changed.
+-- A call of division by another number than 0 comes back with the quotient within 800 steps, and nothing else has
+-- changed.
 abbrev pub DivideLaw : Type 0
 DivideLaw =
     (subs : List Subroutine) (s : State) (g class error : ℕ) → subroutine_at subs g ≡ divide_meaning class error
@@ -29,7 +30,8 @@ InitLaw =
     (subs : List Subroutine) (s : State) (g class free : ℕ) → subroutine_at subs g ≡ init_meaning class free
     → (c : Laying subs s g free) → (s' : State) × ComesBack subs s 15 s' × Laid c.call free s'
 
--- A call of alloc comes back with a block, where some free part is long enough, in 60 steps and 18 for each free part that is passed over.
+-- A call of alloc comes back with a block, where some free part is long enough, in 60 steps and 18 for each free part
+-- that is passed over.
 abbrev pub AllocLaw : Type 0
 AllocLaw =
     (subs : List Subroutine) (s : State) (g class error free : ℕ) → subroutine_at subs g ≡ alloc_meaning class error free
@@ -41,7 +43,8 @@ FreeLaw =
     (subs : List Subroutine) (s : State) (g class free : ℕ) → subroutine_at subs g ≡ deAlloc_meaning class free
     → (c : Deallocating subs s g free) → (s' : State) × ComesBack subs s 13 s' × Freed c.call free (c.front ++ c.back) s'
 
--- Division by 0, a size below 1, a size that is too great, and one for which no free part is long enough: the first call is one of Sys.error.
+-- Division by 0, a size below 1, a size that is too great, and one for which no free part is long enough: the first
+-- call is one of Sys.error.
 pub record ErrorLaws : Type 0 where
   pub zero : (subs : List Subroutine) (s : State) (g class error : ℕ) → subroutine_at subs g ≡ divide_meaning class error
       → (c : DividingByZero subs s g) → ComesToCall c.call error (3 ∷ []) 7

@@ -15,7 +15,8 @@ use Rattle.os_laws.specs.Numbers.{product, quotient, multiply_steps}
 
 -- ---- what each law does to the machine
 
--- The machine has made n steps under key 0: for every history that it stood for, it stands for that one with these moves added.
+-- The machine has made n steps under key 0: for every history that it stood for, it stands for that one with these
+-- moves added.
 pub record GoesOn (old : Jack) (n : ℕ) (new : Jack) : Type 0 where
   pub state : after (the_subroutines old.core.now) no_key n (jack_state old) ≡ Some (jack_state new)
   pub history : Goes no_key (Stands old) old.moves n [] (Stands new) new.moves
@@ -95,7 +96,8 @@ pub record CallsDeAlloc (j : Jack) : Type 0 where
 abbrev pub HasLaid : Jack → Jack → Type 0
 HasLaid old new = (c : CallsInit old) → Laid c.made.call c.free (jack_state new)
 
--- The heap is a heap with the new block, for every list of live blocks that it had before; it took 60 steps and 18 for each part passed over.
+-- The heap is a heap with the new block, for every list of live blocks that it had before; it took 60 steps and 18 for
+-- each part passed over.
 abbrev pub HasAllocated : Jack → ℕ → Jack → Type 0
 HasAllocated old n new = (c : CallsAlloc old) → (n ≤ 60 + 18 * c.made.k) × Allocated c.made.call c.has.free c.made.size c.made.live (jack_state new)
 
@@ -105,7 +107,8 @@ HasFreed old n new = (c : CallsDeAlloc old) → (n ≤ 16) × Freed c.made.call 
 
 -- ---- errors
 
--- The call has called the subroutine of this number with this value; the machine stands at its first statement, and nothing else has changed.
+-- The call has called the subroutine of this number with this value; the machine stands at its first statement, and
+-- nothing else has changed.
 pub record StandsAt {subs : List Subroutine} {s : State} {g : ℕ} {values : List ℕ} (c : NextCall subs s g values) (error v : ℕ) (s' : State) : Type 0 where
   pub callee : Frame
   pub state : s' ≡ record s { frames = new_frame subs error (v ∷ []) ∷ callee ∷ c.caller ∷ c.below }

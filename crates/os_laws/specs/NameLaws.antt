@@ -23,8 +23,8 @@ NamedLaw =
     (core : Core) (class : List ℕ) (routine : tree.Subroutine) (h : HasRoutine core class routine)
     → subroutine_at (the_subroutines core) (number_of h) ≡ subroutine_meaning (names_in h) (field_count h.c.class.variables) routine
 
--- The kernel's routines mean the texts that the laws speak of: in a class of this number, after this many statics, with this many
--- fields.
+-- The kernel's routines mean the texts that the laws speak of: in a class of this number, after this many statics, with
+-- this many fields.
 pub record KernelLaw : Type 0 where
   pub multiply : (all : List tree.ClassFile) (own statics fields : ℕ) (c : tree.Class) → subroutine_meaning (standing all own statics c multiply) fields multiply ≡ multiply_meaning own
   pub divide : (all : List tree.ClassFile) (own statics fields : ℕ) (c : tree.Class) → HasNoSys (standing all own statics c divide)
@@ -45,8 +45,8 @@ abbrev pub HeapRunLaw : Type 0
 HeapRunLaw = (core : Core) (k : HasKernel core) (s : State) (live : List Block) → Uses (the_subroutines core) (numbers_of k) s live → Holds s k.free live
 
 pub record ShippedLaw : Type 0 where
-  -- What the resolver answers for a folder's classes and those that the code reads from the system's texts is a program with the system as it is
-  -- shipped.
+  -- What the resolver answers for a folder's classes and those that the code reads from the system's texts is a program
+  -- with the system as it is shipped.
   pub resolved : (core : Core) (own os : List Class) → the_program core ≡ program_meaning (map the_file own) (map the_file os) → IsWellNamed (map the_file own) (map the_file os) → AreClassesOf system os → IsShipped core
   -- Such a program has the kernel.
   pub kernel : (core : Core) → IsShipped core → HasKernel core

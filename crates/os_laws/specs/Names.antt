@@ -16,7 +16,8 @@ abbrev pub statics_in : List tree.ClassFile → ℕ
 statics_in [] = 0
 statics_in (c ∷ cs) = static_count c.class.variables + statics_in cs
 
--- The program is that of these classes, which are well named. Of those of the operating system one has this name, and this routine is in it.
+-- The program is that of these classes, which are well named. Of those of the operating system one has this name, and
+-- this routine is in it.
 pub record HasRoutine (core : Core) (class : List ℕ) (routine : tree.Subroutine) : Type 0 where
   pub own : List tree.ClassFile
   pub front : List tree.ClassFile

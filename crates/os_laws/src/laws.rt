@@ -11,10 +11,12 @@ use std::alloc::AllocError;
 // More steps than a call of the heap takes, however many free parts there are.
 const MOST_STEPS: u64 = 300_000;
 
-// At the first statement of `Sys.error` two frames stand above the caller's: the routine's, which waits, and that of `Sys.error`.
+// At the first statement of `Sys.error` two frames stand above the caller's: the routine's, which waits, and that of
+// `Sys.error`.
 const ERROR_FRAMES: usize = 2;
 
-/// The next step is a call of `Math.multiply`: it is stepped until its place holds the product. The answer is the number of steps.
+/// The next step is a call of `Math.multiply`: it is stepped until its place holds the product. The answer is the
+/// number of steps.
 pub fn multiply_law(machine: &mut Jack) -> Result<u64, AllocError>
     requires call { CallsMultiply machine.old }
     requires moves { machine.old.moves ≤ 2 ^ 62 }
@@ -53,7 +55,8 @@ pub fn divide_zero_law(machine: &mut Jack) -> Result<u64, AllocError>
     step_until(machine, frames, 7)
 }
 
-/// The next step is a call of `Memory.alloc` with a size below 1: it is stepped until its first call, of `Sys.error` with 5.
+/// The next step is a call of `Memory.alloc` with a size below 1: it is stepped until its first call, of `Sys.error`
+/// with 5.
 pub fn size_law(machine: &mut Jack) -> Result<u64, AllocError>
     requires call { CallsAllocOfNothing machine.old }
     requires moves { machine.old.moves ≤ 2 ^ 62 }
@@ -66,8 +69,8 @@ pub fn size_law(machine: &mut Jack) -> Result<u64, AllocError>
     step_until(machine, frames, 7)
 }
 
-/// The next step is a call of `Memory.alloc` with a size for which there is no room: it is stepped until its first call,
-/// of `Sys.error` with 6.
+/// The next step is a call of `Memory.alloc` with a size for which there is no room: it is stepped until its first
+/// call, of `Sys.error` with 6.
 pub fn full_law(machine: &mut Jack) -> Result<u64, AllocError>
     requires call { CallsAllocOfTooMuch machine.old }
     requires moves { machine.old.moves ≤ 2 ^ 62 }
@@ -79,7 +82,8 @@ pub fn full_law(machine: &mut Jack) -> Result<u64, AllocError>
     step_until(machine, frames, MOST_STEPS)
 }
 
-/// The next step is a call of `Memory.init`: it is stepped until it has come back, and the heap is a heap without live blocks.
+/// The next step is a call of `Memory.init`: it is stepped until it has come back, and the heap is a heap without live
+/// blocks.
 pub fn heap_start_law(machine: &mut Jack) -> Result<u64, AllocError>
     requires call { CallsInit machine.old }
     requires moves { machine.old.moves ≤ 2 ^ 62 }

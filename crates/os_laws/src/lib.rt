@@ -1,4 +1,5 @@
-//! Laws of the operating system's kernel: multiplication, division and the heap, in the meaning of Jack (book, chapter 12).
+//! Laws of the operating system's kernel: multiplication, division and the heap, in the meaning of Jack (book, chapter
+//! 12).
 #![tactic(auto)]
 
 mod laws;

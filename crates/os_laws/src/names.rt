@@ -2,7 +2,8 @@
 
 ghost use Rattle.os_laws.specs.NameLaws.{KernelLaw, NamedLaw, ShippedLaw, HeapRunLaw};
 
-/// In a program that is well named, the names of a class of the operating system and of a routine in it lead to its meaning.
+/// In a program that is well named, the names of a class of the operating system and of a routine in it lead to its
+/// meaning.
 pub fn named_law()
     ensures { NamedLaw }
 {}
@@ -17,7 +18,8 @@ pub fn shipped_law()
     ensures { ShippedLaw }
 {}
 
-/// Wherever a run has come that stores only into blocks in use and the screen, and frees only blocks in use, it has a heap.
+/// Wherever a run has come that stores only into blocks in use and the screen, and frees only blocks in use, it has a
+/// heap.
 pub fn heap_run_law()
     ensures { HeapRunLaw }
 {}

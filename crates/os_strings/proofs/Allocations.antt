@@ -15,6 +15,7 @@ use Rattle.os_laws.specs.Names.{IsShipped}
 use Rattle.os_laws.proofs.Allocating.{is_below}
 use Rattle.os_laws.proofs.Basics.{enters}
 use Rattle.os_laws.proofs.Comparing.{less, not_less}
+use Rattle.os_laws.proofs.Errors.{all_short}
 use Rattle.os_laws.proofs.Parts.{all_split, all_of_map, all_both}
 use Rattle.os_laws.proofs.Runs.{Call, over, run, run_then}
 use Rattle.os_laws.proofs.Searching.{at_text, at_loop, begins}
@@ -28,24 +29,6 @@ use Rattle.os_functions.proofs.Statics.{same_free}
 use Rattle.os_functions.proofs.Texts.{routine, new_array_body}
 use Rattle.os_functions.proofs.Ways.{Way, way_of_run, opened}
 use Rattle.os_strings.proofs.Failing.{Fails, fails_by_call, fails_called, fails_then}
-
--- ---- where no free part is long enough
-
-mapped : (o : Option ℕ) → option_map (λ j. suc j) o ≡ None → o ≡ None
-mapped None e = refl
-mapped (Some j) e = absurd (cc e)
-
-some-none : (k : ℕ) → ◌≡◌ {A = Option ℕ} (Some k) None → ⊥
-some-none k e = cc e
-
-short_with : (ws : List ℕ) (n c : ℕ) (cs : List ℕ) → (passed_block ws n cs ≡ None → AllByRecursion (λ q. word_at ws q < n) cs) → (b : Bool) → nat_lt (word_at ws c) n ≡ b
-    → (if b then option_map (λ j. suc j) (passed_block ws n cs) else Some 0) ≡ None → AllByRecursion (λ q. word_at ws q < n) (c ∷ cs)
-short_with ws n c cs more true t e = (is_below _ _ t, more (mapped (passed_block ws n cs) e))
-short_with ws n c cs more false t e = absurd (some-none 0 e)
-
-all_short : (ws : List ℕ) (n : ℕ) (parts : List ℕ) → passed_block ws n parts ≡ None → AllByRecursion (λ q. word_at ws q < n) parts
-all_short ws n [] e = tt
-all_short ws n (c ∷ cs) e = short_with ws n c cs (all_short ws n cs) (nat_lt (word_at ws c) n) refl e
 
 module _ (subs : List Subroutine) (g error free : ℕ) (ss ws : List ℕ) where
   abbrev at_start : ℕ → Call

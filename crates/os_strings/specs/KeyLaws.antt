@@ -18,7 +18,7 @@ pub record ReturnsUnder (subs : List Subroutine) (keys : ℕ → ℕ) (s : State
   pub frames : length s'.frames ≡ length s.frames
   pub inside : (j : ℕ) → 0 < j → j < n → (t : State) × (after subs keys j s ≡ Some t) × (length s.frames < length t.frames)
 
--- A key k goes down and up again: at the first m looks no key is down, at the next one k is, then some key at l looks
+-- A key k goes down and up again. At the first m looks no key is down, at the next one k is, then some key at l looks
 -- more, and then none. The call is step 0. The first look comes at step 11, and others 13 steps apart until a key is
 -- down; from then on they come 9 steps apart.
 pub record IsPressed (keys : ℕ → ℕ) (m l k : ℕ) : Type 0 where

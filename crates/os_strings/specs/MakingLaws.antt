@@ -20,8 +20,8 @@ abbrev pub blocks_of : ℕ → ℕ → ℕ → List Block
 blocks_of o place zero = object_block o ∷ []
 blocks_of o place (suc r) = record { place = place; words = suc r } ∷ object_block o ∷ []
 
--- The next step is a call of String.new with this length, over a heap in which the free part after the first k is the
--- first that has room for the string's three words.
+-- The next step is a call of String.new with this length. In the heap the free part after the first k is the first that
+-- has room for the string's three words.
 pub record Making {core : Core} {p : IsShipped core} (h : HasStatics p) (s : State) (max : ℕ) : Type 0 where
   pub parts : List ℕ
   pub live : List Block

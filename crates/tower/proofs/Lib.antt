@@ -1,9 +1,7 @@
 mod Words
 mod Trees
 mod Literals
-mod Reaching
-mod Weights
-mod Gains
+pub mod Weights
 mod Limits
 pub mod Headline
 pub mod Mapped

@@ -74,7 +74,8 @@ fn words(alloc: Global, instrs: &[Instr]) -> Result<Vec<u16>, AllocError>
 fn image_of(alloc: Global, coded: Coded) -> Result<Image, AllocError>
     requires plain { All IsPlain coded.instrs }
     requires mapped { IsMapped (record { words = map word_of coded.instrs; map = coded.map }) }
-    ensures image { IfOk result (λ image. image ≡ record { words = map word_of coded.instrs; map = coded.map }) }
+    ensures image { IfOk result
+        (λ image. image ≡ record { words = map word_of coded.instrs; map = coded.map }) }
     ensures mapped { IfOk result (λ image. IsMapped image) }
 {
     let words = words(alloc, coded.instrs.as_slice())?;
@@ -90,7 +91,8 @@ pub(crate) fn build_linked(alloc: Global, linked: &Linked) -> Result<Image, Buil
     requires uniform { IsUniform linked.now }
     requires starts { linked.now.bare ≡ false }
     ensures image { IfOk result (λ image. image ≡ image_for linked.now) }
-    ensures translated { IfOk result (λ image. IsTranslated linked.now image.words (the_map image.map) endless_loop) }
+    ensures translated { IfOk result
+        (λ image. IsTranslated linked.now image.words (the_map image.map) endless_loop) }
     ensures mapped { IfOk result (λ image. IsMapped image) }
     ensures fits { IfOk result (λ image. length image.words ≤ image_words) }
     ensures unbuilt { IfErr result (IsUnbuilt linked.now) }

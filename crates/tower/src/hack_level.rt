@@ -59,7 +59,8 @@ impl HackLevel {
         requires { self.old.hack.moves < 2 ^ 63 }
         ensures image { image_in self.new ≡ image_in self.old }
         ensures moves { self.new.hack.moves ≡ self.old.hack.moves + 1 }
-        ensures machine { machine_of self.new.hack ≡ step self.old.hack.image key (machine_of self.old.hack) }
+        ensures machine { machine_of self.new.hack
+            ≡ step self.old.hack.image key (machine_of self.old.hack) }
         ensures acts { result ≡ Acted }
         ensures stands { (turns : List Turn) → HasFollowed self.old turns
             → HasFollowed self.new (turns ++ turn key Acted ∷ []) }

@@ -38,7 +38,8 @@ fn is_replaced(own: &[Class], file: &[u8]) -> bool
 /// The classes of the operating system that stand beside those of a folder, in order of file name. They are all of them, or,
 /// where the folder's classes replace, those whose name none of them has, and Sys.
 pub fn classes_beside(alloc: Global, own: &[Class], replace: bool) -> Result<Vec<Class>, AllocError>
-    ensures { IfOk result (λ os. AreClassesOf (system_beside replace (map the_file own.now)) os.items) }
+    ensures { IfOk result
+        (λ os. AreClassesOf (system_beside replace (map the_file own.now)) os.items) }
 {
     let mut os = classes(alloc)?;
     if replace {

@@ -203,7 +203,8 @@ fn add_classes(
     placed: &mut List<ClassPlaces>,
 ) -> Result<(), AllocError>
     requires { sum_by (λ f. f.statics) files.now ≤ 240 }
-    ensures { OnOk result (placed.new ≡ placed.old ++ placed_classes files.now own (length placed.old) classes.now) }
+    ensures { OnOk result
+        (placed.new ≡ placed.old ++ placed_classes files.now own (length placed.old) classes.now) }
 {
     for class in classes {
         let k = placed.as_slice().len();
@@ -252,7 +253,8 @@ fn add_class_subs(
     entries: &[(u32, u32)],
     subs: &mut List<SubPlaces>,
 ) -> Result<(), AllocError>
-    ensures { OnOk result (subs.new ≡ subs.old ++ class_subs functions.now entries.now k class.now.name.text (length subs.old + 1) class.now.subroutines.items) }
+    ensures { OnOk result (subs.new ≡ subs.old ++ class_subs functions.now entries.now k
+        class.now.name.text (length subs.old + 1) class.now.subroutines.items) }
 {
     for sub in &class.subroutines {
         let entry = entry(functions, entries, subs.as_slice().len() + 1);
@@ -271,7 +273,8 @@ fn add_subs(
     subs: &mut List<SubPlaces>,
 ) -> Result<(), AllocError>
     requires { first + length classes.now < 2 ^ 32 }
-    ensures { OnOk result (subs.new ≡ subs.old ++ placed_subs functions.now entries.now first (length subs.old + 1) classes.now) }
+    ensures { OnOk result (subs.new ≡ subs.old
+        ++ placed_subs functions.now entries.now first (length subs.old + 1) classes.now) }
 {
     for (i, class) in classes.iter().enumerate() {
         add_class_subs(alloc, class, (first + i) as u32, functions, entries, subs)?;
@@ -353,7 +356,8 @@ fn placed_ranges(
     system: &[Class],
     points: &[PointRange],
 ) -> Result<List<PlacedRange>, AllocError>
-    ensures { IfOk result (λ ranges. ranges ≡ map (placed_range (trees_of (own.now ++ system.now))) points.now) }
+    ensures { IfOk result
+        (λ ranges. ranges ≡ map (placed_range (trees_of (own.now ++ system.now))) points.now) }
 {
     let mut tables = List::new(alloc);
     add_tables(alloc, own, &mut tables)?;
@@ -403,7 +407,8 @@ fn subs_of(
     entries: &[(u32, u32)],
 ) -> Result<List<SubPlaces>, AllocError>
     requires { length own.now + length system.now < 2 ^ 32 }
-    ensures { IfOk result (λ subs. subs ≡ placed_subs functions.now entries.now 0 1 (own.now ++ system.now)) }
+    ensures { IfOk result
+        (λ subs. subs ≡ placed_subs functions.now entries.now 0 1 (own.now ++ system.now)) }
 {
     let mut subs = List::new(alloc);
     add_subs(alloc, own, 0, functions, entries, &mut subs)?;
@@ -419,7 +424,8 @@ fn classes_of(
     files: &[LinkedFile],
 ) -> Result<List<ClassPlaces>, AllocError>
     requires { sum_by (λ f. f.statics) files.now ≤ 240 }
-    ensures { IfOk result (λ classes. classes ≡ placed_classes files.now (length own.now) 0 (own.now ++ system.now)) }
+    ensures { IfOk result
+        (λ classes. classes ≡ placed_classes files.now (length own.now) 0 (own.now ++ system.now)) }
 {
     let mut classes = List::new(alloc);
     add_classes(alloc, own, files, own.len(), &mut classes)?;

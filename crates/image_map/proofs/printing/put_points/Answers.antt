@@ -1,7 +1,7 @@
 use Rattle.std.proofs.Common.{◌∙◌, ap, drop, get_or, map, ◌+◌}
 use Rattle.std.specs.List.{flat_map}
 use Rattle.std.proofs.lemmas.List.{get_or_default}
-use Rattle.image_map.proofs.Prints.{prints_more, prints_failed, rest_at}
+use Rattle.outer_world.proofs.Prints.{prints_more, prints_failed, rest_at}
 use Rattle.image_map.specs.declared.map.PointRange.{PointRange}
 use Rattle.image_map.specs.Text.{point_line}
 use Rattle.image_map.proofs.printing.put_points.Goals as goal

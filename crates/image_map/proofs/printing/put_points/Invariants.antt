@@ -1,7 +1,7 @@
 -- The lines of the ranges so far have been handed to the buffer.
 use Rattle.std.proofs.Common.{◌≡◌, drop, take, map}
 use Rattle.std.specs.List.{flat_map}
-use Rattle.image_map.proofs.Prints.{Prints}
+use Rattle.outer_world.proofs.Prints.{Prints}
 use Rattle.image_map.specs.Text.{point_line}
 use Rattle.image_map.proofs.printing.put_points.Given as goal
 

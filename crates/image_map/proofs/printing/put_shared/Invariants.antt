@@ -1,7 +1,7 @@
 -- The lines of the routines so far have been handed to the buffer.
 use Rattle.std.proofs.Common.{◌≡◌, drop, take}
 use Rattle.std.specs.List.{flat_map}
-use Rattle.image_map.proofs.Prints.{Prints}
+use Rattle.outer_world.proofs.Prints.{Prints}
 use Rattle.image_map.specs.Text.{shared_line}
 use Rattle.image_map.proofs.printing.put_shared.Given as goal
 

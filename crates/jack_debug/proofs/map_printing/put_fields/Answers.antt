@@ -1,5 +1,5 @@
 use Rattle.std.proofs.Common.{◌∙◌, ap, drop, ◌+◌}
-use Rattle.image_map.proofs.Prints.{prints_more, prints_failed, rest_at}
+use Rattle.outer_world.proofs.Prints.{prints_more, prints_failed, rest_at}
 use Rattle.jack_debug.specs.MapText.{field_lines}
 use Rattle.jack_debug.proofs.map_printing.put_fields.Goals as goal
 

@@ -1,6 +1,6 @@
 -- The lines of the fields so far have been handed to the buffer.
 use Rattle.std.proofs.Common.{◌≡◌, drop, take}
-use Rattle.image_map.proofs.Prints.{Prints}
+use Rattle.outer_world.proofs.Prints.{Prints}
 use Rattle.jack_debug.specs.MapText.{field_lines}
 use Rattle.jack_debug.proofs.map_printing.put_fields.Given as goal
 

@@ -1,6 +1,6 @@
 use Rattle.std.proofs.Common.{◌∙◌, ap, drop, ◌+◌}
 use Rattle.std.specs.List.{flat_map}
-use Rattle.image_map.proofs.Prints.{prints_more, prints_failed, rest_at}
+use Rattle.outer_world.proofs.Prints.{prints_more, prints_failed, rest_at}
 use Rattle.jack_debug.specs.MapText.{static_line}
 use Rattle.jack_debug.proofs.map_printing.put_statics.Goals as goal
 

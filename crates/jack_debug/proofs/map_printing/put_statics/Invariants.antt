@@ -1,7 +1,7 @@
 -- The lines of the statics so far have been handed to the buffer.
 use Rattle.std.proofs.Common.{◌≡◌, drop, take}
 use Rattle.std.specs.List.{flat_map}
-use Rattle.image_map.proofs.Prints.{Prints}
+use Rattle.outer_world.proofs.Prints.{Prints}
 use Rattle.jack_debug.specs.MapText.{static_line}
 use Rattle.jack_debug.proofs.map_printing.put_statics.Given as goal
 

@@ -1,5 +1,5 @@
 use Rattle.std.proofs.Common.{◌≡◌, ◌∙◌, ap, drop, ◌+◌, ◌++◌, ℕ, List, ◌∷◌, arith, add-zero, refl}
-use Rattle.image_map.proofs.Prints.{prints_start, prints_more, prints_failed, rest_at}
+use Rattle.outer_world.proofs.Prints.{prints_start, prints_more, prints_failed, rest_at}
 use Rattle.jack_debug.specs.MapText.{variable_line, variable_lines}
 use Rattle.jack_debug.proofs.map_printing.put_variables.Goals as goal
 

@@ -1,6 +1,6 @@
 use Rattle.std.proofs.Common.{◌∙◌, ap, drop, ◌+◌}
 use Rattle.std.specs.List.{flat_map}
-use Rattle.image_map.proofs.Prints.{prints_more, prints_failed, rest_at}
+use Rattle.outer_world.proofs.Prints.{prints_more, prints_failed, rest_at}
 use Rattle.jack_debug.specs.Text.{variable_line}
 use Rattle.jack_debug.proofs.printing.put_variables.Goals as goal
 

@@ -1,6 +1,6 @@
 use Rattle.std.proofs.Common.{◌≡◌, ◌+◌, ◌++◌, ℕ, List, ◌∷◌, length, drop, sym, ap, ◌∙◌, arith}
 use Rattle.jack_tree.specs.declared.tree.Class.{Class}
-use Rattle.image_map.proofs.Prints.{rest_at}
+use Rattle.outer_world.proofs.Prints.{rest_at}
 use Rattle.vm_debug.specs.Places.{placed_subs}
 use Rattle.vm_debug.proofs.Adding.{class_more}
 use Rattle.vm_debug.proofs.places.add_subs.Goals as goal
