@@ -1,5 +1,5 @@
-//! Checks. A check that fails tells its row. An assertion that is written out costs a test some hundred steps to prove, and
-//! the call of a check ten.
+//! Checks. A check that fails tells its row. An assertion that is written out costs a test some hundred steps to prove,
+//! and the call of a check ten.
 use hdl_parser::print;
 use hdl_tree::Chip;
 use outer_world::{MemorySink, Put};

@@ -99,8 +99,8 @@ fn printed_again(alloc: Global, text: &str) -> Result<String, Fail> {
     }
 }
 
-// The printed forms of the four chips that are built in, and of the Computer, whose parts are the CPU, the instruction memory and the
-// memory.
+// The printed forms of the four chips that are built in, and of the Computer, whose parts are the CPU, the instruction
+// memory and the memory.
 const PRINTED: &[(&str, &str)] = &[
     (
         "Nand",

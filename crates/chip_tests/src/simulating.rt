@@ -52,10 +52,11 @@ fn two_nands(rt: HostRuntime) -> Result<(), Fail> {
     Ok(())
 }
 
-// Pins 0 and 1 are the word that comes into a block of two words, pin 2 is its load and pin 3 its address. Nodes 4 and 5 are the bits of
-// its word, 6 is a flip-flop, and 7, its input, is a Nand.
+// Pins 0 and 1 are the word that comes into a block of two words, pin 2 is its load and pin 3 its address. Nodes 4 and
+// 5 are the bits of its word, 6 is a flip-flop, and 7, its input, is a Nand.
 fn mixed_nodes(alloc: Global) -> Result<List<Node>, AllocError>
-    ensures { IfOk result (λ nodes. nodes ≡ Pin ∷ Pin ∷ Pin ∷ Pin ∷ Word 0 0 ∷ Word 0 1 ∷ Flip 7 ∷ Nand 4 6 ∷ []) }
+    ensures { IfOk result
+        (λ nodes. nodes ≡ Pin ∷ Pin ∷ Pin ∷ Pin ∷ Word 0 0 ∷ Word 0 1 ∷ Flip 7 ∷ Nand 4 6 ∷ []) }
 {
     let nodes = vec![in alloc;
         Node::Pin,
@@ -71,7 +72,8 @@ fn mixed_nodes(alloc: Global) -> Result<List<Node>, AllocError>
 }
 
 fn mixed_blocks(alloc: Global) -> Result<List<Block>, AllocError>
-    ensures { IfOk result (λ blocks. blocks ≡ record { words = 2; «data» = 0 ∷ 1 ∷ []; load = 2; address = 3 ∷ [] } ∷ []) }
+    ensures { IfOk result (λ blocks. blocks
+        ≡ record { words = 2; «data» = 0 ∷ 1 ∷ []; load = 2; address = 3 ∷ [] } ∷ []) }
 {
     let data = vec![in alloc; 0, 1]?;
     let address = vec![in alloc; 3]?;
@@ -225,8 +227,8 @@ fn twenty_cycles(rt: HostRuntime) -> Result<(), Fail> {
 // The high bit of the word that is shown, and the word at address 0.
 type SeenWord = (bool, u16);
 
-// What is seen after a tick and a tock with a word to load; the word after it is put anew, and after another tock; and the bit that is shown at
-// another address.
+// What is seen after a tick and a tock with a word to load. Then the word after it is put anew, and after another tock,
+// and the bit that is shown at another address.
 #[derive(Clone, Copy)]
 struct Seen {
     ticked: SeenWord,
@@ -238,15 +240,18 @@ struct Seen {
 
 fn word_seen(sim: &Sim) -> SeenWord
     requires nodes { length sim.now.net.nodes ≡ 8 }
-    requires block { sim.now.net.blocks ≡ record { words = 2; «data» = 0 ∷ 1 ∷ []; load = 2; address = 3 ∷ [] } ∷ [] }
+    requires block { sim.now.net.blocks
+        ≡ record { words = 2; «data» = 0 ∷ 1 ∷ []; load = 2; address = 3 ∷ [] } ∷ [] }
 {
     (sim.get(5), sim.block_word(0, 0))
 }
 
 // Pins 1 and 2 are set for the first tick, and pin 3 at the end.
 fn words_seen(alloc: Global, net: Netlist) -> Result<Seen, AllocError>
-    requires nodes { net.nodes ≡ Pin ∷ Pin ∷ Pin ∷ Pin ∷ Word 0 0 ∷ Word 0 1 ∷ Flip 7 ∷ Nand 4 6 ∷ [] }
-    requires block { net.blocks ≡ record { words = 2; «data» = 0 ∷ 1 ∷ []; load = 2; address = 3 ∷ [] } ∷ [] }
+    requires nodes { net.nodes
+        ≡ Pin ∷ Pin ∷ Pin ∷ Pin ∷ Word 0 0 ∷ Word 0 1 ∷ Flip 7 ∷ Nand 4 6 ∷ [] }
+    requires block { net.blocks
+        ≡ record { words = 2; «data» = 0 ∷ 1 ∷ []; load = 2; address = 3 ∷ [] } ∷ [] }
 {
     let mut sim = Sim::new(alloc, net)?;
     sim.set(1, true);
@@ -290,9 +295,12 @@ fn words(rt: HostRuntime) -> Result<(), Fail> {
     Ok(())
 }
 
-// Four lanes side by side: pins 0 to 7, flip-flops 8 to 11, two rows of Nands, 12 to 15 and 16 to 19, and two Nands by themselves.
+// Four lanes side by side: pins 0 to 7, flip-flops 8 to 11, two rows of Nands, 12 to 15 and 16 to 19, and two Nands by
+// themselves.
 fn row_nodes(alloc: Global) -> Result<List<Node>, AllocError>
-    ensures { IfOk result (λ nodes. nodes ≡ Pin ∷ Pin ∷ Pin ∷ Pin ∷ Pin ∷ Pin ∷ Pin ∷ Pin ∷ Flip 16 ∷ Flip 17 ∷ Flip 18 ∷ Flip 19 ∷ Nand 0 8 ∷ Nand 1 9 ∷ Nand 2 10 ∷ Nand 3 11 ∷ Nand 12 4 ∷ Nand 13 5 ∷ Nand 14 6 ∷ Nand 15 7 ∷ Nand 16 17 ∷ Nand 20 18 ∷ []) }
+    ensures { IfOk result (λ nodes. nodes ≡ Pin ∷ Pin ∷ Pin ∷ Pin ∷ Pin ∷ Pin ∷ Pin ∷ Pin ∷ Flip 16
+        ∷ Flip 17 ∷ Flip 18 ∷ Flip 19 ∷ Nand 0 8 ∷ Nand 1 9 ∷ Nand 2 10 ∷ Nand 3 11 ∷ Nand 12 4
+        ∷ Nand 13 5 ∷ Nand 14 6 ∷ Nand 15 7 ∷ Nand 16 17 ∷ Nand 20 18 ∷ []) }
 {
     let nodes = vec![in alloc;
         Node::Pin,

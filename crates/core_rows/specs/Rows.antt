@@ -31,7 +31,8 @@ new = subroutine Constructor 0 1 0 (
 abbrev pub half : Subroutine
 half = subroutine Method 0 1 0 (Return 1 (with_two 5 (Field 1) (Literal 2)) ∷ [])
 
--- 3, Main.main: the string is made by String.new, 7, and filled by String.appendChar, 8; the return after its last statement is added
+-- 3, Main.main: the string is made by String.new, 7, and filled by String.appendChar, 8; the return after its last
+-- statement is added
 abbrev pub main : Subroutine
 main = subroutine Function 0 0 2 (
     Let 1 (Static 0) (Binary Plus (Name (Static 0)) (Literal 1))
@@ -44,7 +45,8 @@ main = subroutine Function 0 0 2 (
 abbrev pub gives_zero : Subroutine
 gives_zero = subroutine Function 1 2 0 (Return 1 (Literal 0) ∷ [])
 
--- the system: 4 and 5 in Math, 6 Memory.alloc, 7 and 8 in String, of which the first takes a block of one word, and 9 Sys.init
+-- the system: 4 and 5 in Math, 6 Memory.alloc, 7 and 8 in String, of which the first takes a block of one word, and 9
+-- Sys.init
 abbrev pub of_system : List Subroutine
 of_system =
     gives_zero ∷ gives_zero

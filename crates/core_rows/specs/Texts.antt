@@ -1,5 +1,5 @@
--- A small program with a small operating system, as texts. It has a constructor, a method, a static, a string, the operators * and /, and a body
--- without a `return` at its end. (The book, chapters 9, 11 and 12.)
+-- A small program with a small operating system, as texts. It has a constructor, a method, a static, a string, the
+-- operators * and /, and a body without a `return` at its end. (The book, chapters 9, 11 and 12.)
 use Rattle.std.specs.Prelude.{ℕ, List, [], ◌∷◌, ◌++◌, codes}
 
 -- files, each by its name and its text

@@ -19,9 +19,9 @@ use Rattle.vm_debug.specs.Views.{IsPlacesOf}
 use Rattle.vm_debug.specs.Meanings.{Names, AreStaticsOf, view_of}
 use Rattle.vm_debug.specs.Program.{ArePlacesOf}
 
--- The computer is stopped before its cycle n. The meaning has come, over the keys that the computer has heard and by the steps that it has
--- committed, to a state. Let a call be its innermost frame, and let the places name the variables of the called subroutine. Then the walk
--- of the computer's words is the view of that state.
+-- The computer is stopped before its cycle n. The meaning has come, over the keys that the computer has heard and by
+-- the steps that it has committed, to a state. Let a call be its innermost frame, and let the places name the variables
+-- of the called subroutine. Then the walk of the computer's words is the view of that state.
 pub record ShowsRun (program : Program) (linked : Linked) (places : Places) (index : ℕ → ℕ) (image : List ℕ) (map : Map) (keys : ℕ → ℕ) (n : ℕ) : Type 0 where
   pub after : Listening State
   pub run : run_of (meaning_of program.subroutines) (start program) (heard_keys (run_trace image map keys) n) (steps (run_trace image map keys) n) ≡ Some after

@@ -12,7 +12,8 @@ use Rattle.tower.specs.Program.{IsProgramOf}
 use Rattle.tower.specs.Spelled.{AreSpelled}
 use Rattle.vm_debug.specs.Program.{ArePlacesOf, ArePlacesOfClasses}
 
--- The places of a folder's classes, with those of a system's files, are those of the program that they mean and of the linked code of its image.
+-- The places of a folder's classes, with those of a system's files, are those of the program that they mean and of the
+-- linked code of its image.
 abbrev pub ClassPlacesLaw : Type 0
 ClassPlacesLaw = (own os : List Class) (files : Texts) (core : Core) (image : Image) (places : Places) → AreSpelled own → AreClassesOf files os → IsProgramOf (map the_file own) (map the_file os) core
     → (is : IsImageOf core image) → ArePlacesOfClasses own os core image.map places → ArePlacesOf (the_program core) is.linked places

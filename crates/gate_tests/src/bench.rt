@@ -10,7 +10,7 @@ use gate_sim::Sim;
 use hack_cpu::find_shipped;
 use hdl_elab::Elab;
 use hdl_flatten::PinAt;
-use hdl_tree::Library;
+use hdl_tree::{Library, Memories};
 use netlist::{Netlist, Node};
 use std::alloc::{AllocError, Global};
 use std::test::Fail;
@@ -84,8 +84,10 @@ struct Ends {
 
 // The first of these pins are the inputs.
 fn ends_of(alloc: Global, net: &Netlist, pins: &[PinAt], inputs: usize) -> Result<Ends, Fail>
-    ensures pins { IfOk result (λ ends. All (λ node. slice_get net.now.nodes node ≡ Some Pin) ends.inputs.items) }
-    ensures there { IfOk result (λ ends. All (λ node. node < length net.now.nodes) ends.outputs.items) }
+    ensures pins { IfOk result
+        (λ ends. All (λ node. slice_get net.now.nodes node ≡ Some Pin) ends.inputs.items) }
+    ensures there { IfOk result
+        (λ ends. All (λ node. node < length net.now.nodes) ends.outputs.items) }
 {
     if inputs > pins.len() {
         return Err(Fail::from("the inputs are pins"));
@@ -100,7 +102,8 @@ fn ends_of(alloc: Global, net: &Netlist, pins: &[PinAt], inputs: usize) -> Resul
 }
 
 fn bench_of(alloc: Global, elab: Elab, inputs: usize) -> Result<Bench, Fail>
-    ensures pins { IfOk result (λ b. All (λ node. slice_get b.sim.net.nodes node ≡ Some Pin) b.inputs.items) }
+    ensures pins { IfOk result
+        (λ b. All (λ node. slice_get b.sim.net.nodes node ≡ Some Pin) b.inputs.items) }
     ensures there { IfOk result (λ b. All (λ node. node < length b.sim.net.nodes) b.outputs.items) }
 {
     let ends = ends_of(alloc, &elab.net, elab.pins.as_slice(), inputs)?;
@@ -117,17 +120,18 @@ pub fn put_on_bench(
     alloc: Global,
     library: &Library,
     name: &[u8],
-    blocks: bool,
+    memories: Memories,
 ) -> Result<Bench, Fail>
     requires { IsLibrary library.now.entries }
-    ensures pins { IfOk result (λ b. All (λ node. slice_get b.sim.net.nodes node ≡ Some Pin) b.inputs.items) }
+    ensures pins { IfOk result
+        (λ b. All (λ node. slice_get b.sim.net.nodes node ≡ Some Pin) b.inputs.items) }
     ensures there { IfOk result (λ b. All (λ node. node < length b.sim.net.nodes) b.outputs.items) }
 {
     let inputs = match find_shipped(library, name) {
         Some(entry) => entry.chip.inputs.as_slice().len(),
         None => return Err(Fail::from("the chip is there")),
     };
-    match answer(alloc, library, name, blocks)? {
+    match answer(alloc, library, name, memories)? {
         Ok(elab) => bench_of(alloc, elab, inputs),
         Err(_) => Err(Fail::from("the chip has a netlist")),
     }
@@ -159,9 +163,11 @@ fn number_at(sim: &Sim, nodes: &[u32]) -> u64
 impl Bench {
     /// Sets the inputs, and gives the outputs in this cycle.
     pub fn try_inputs(&mut self, number: u64) -> u64
-        requires pins { All (λ node. slice_get self.old.sim.net.nodes node ≡ Some Pin) self.old.inputs.items }
+        requires pins { All
+            (λ node. slice_get self.old.sim.net.nodes node ≡ Some Pin) self.old.inputs.items }
         requires there { All (λ node. node < length self.old.sim.net.nodes) self.old.outputs.items }
-        ensures pins { All (λ node. slice_get self.new.sim.net.nodes node ≡ Some Pin) self.new.inputs.items }
+        ensures pins { All
+            (λ node. slice_get self.new.sim.net.nodes node ≡ Some Pin) self.new.inputs.items }
         ensures there { All (λ node. node < length self.new.sim.net.nodes) self.new.outputs.items }
     {
         set_number(&mut self.sim, &self.inputs, number);
@@ -171,9 +177,11 @@ impl Bench {
 
     /// Goes on to the next cycle, and gives the outputs there with the inputs that are set.
     pub fn next_cycle(&mut self) -> u64
-        requires pins { All (λ node. slice_get self.old.sim.net.nodes node ≡ Some Pin) self.old.inputs.items }
+        requires pins { All
+            (λ node. slice_get self.old.sim.net.nodes node ≡ Some Pin) self.old.inputs.items }
         requires there { All (λ node. node < length self.old.sim.net.nodes) self.old.outputs.items }
-        ensures pins { All (λ node. slice_get self.new.sim.net.nodes node ≡ Some Pin) self.new.inputs.items }
+        ensures pins { All
+            (λ node. slice_get self.new.sim.net.nodes node ≡ Some Pin) self.new.inputs.items }
         ensures there { All (λ node. node < length self.new.sim.net.nodes) self.new.outputs.items }
     {
         self.sim.cycle();

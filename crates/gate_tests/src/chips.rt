@@ -7,7 +7,7 @@ use chip_basic::nand_tree;
 use hack_cpu::{find_shipped, library};
 use hdl_elab::{Elab, ElaborationFault, elaborate};
 use hdl_parser::parse;
-use hdl_tree::{Chip, Entry, Library, List, Name};
+use hdl_tree::{Chip, Entry, Library, List, Memories, Name};
 use std::alloc::{AllocError, Global};
 use std::test::Fail;
 
@@ -99,7 +99,7 @@ pub fn answer(
     alloc: Global,
     library: &Library,
     name: &[u8],
-    blocks: bool,
+    memories: Memories,
 ) -> Result<Result<Elab, ElaborationFault>, Fail>
     requires { IsLibrary library.now.entries }
 {
@@ -107,5 +107,5 @@ pub fn answer(
     if find_shipped(library, name).is_none() {
         return Err(Fail::from("a chip of this name is there"));
     }
-    Ok(elaborate(alloc, library, &top, blocks))
+    Ok(elaborate(alloc, library, &top, memories))
 }

@@ -7,6 +7,7 @@ ghost use Rattle.netlist.specs.declared.node.Node.TheVariants.{Pin};
 use crate::bench::{Bench, put_on_bench};
 use crate::checks::holds;
 use crate::chips::library_with;
+use hdl_tree::Memories;
 use std::test::*;
 
 // Bits of pins at the left and at the right, one or several; constants at one bit, at several, and at all of a pin. Inputs that nothing feeds
@@ -46,7 +47,8 @@ fn outputs_at(inputs: u64) -> u64 {
 
 // Whether the chip gives the outputs of its table at all inputs.
 fn follows_its_table(chip: &mut Bench) -> bool
-    requires pins { All (λ node. slice_get chip.old.sim.net.nodes node ≡ Some Pin) chip.old.inputs.items }
+    requires pins { All
+        (λ node. slice_get chip.old.sim.net.nodes node ≡ Some Pin) chip.old.inputs.items }
     requires there { All (λ node. node < length chip.old.sim.net.nodes) chip.old.outputs.items }
 {
     for inputs in 0..256 {
@@ -61,7 +63,7 @@ fn follows_its_table(chip: &mut Bench) -> bool
 fn each_kind(rt: HostRuntime) -> Result<(), Fail> {
     let alloc = rt.alloc();
     let library = library_with(alloc, &[WIRED])?;
-    let mut chip = put_on_bench(alloc, &library, b"Wired", false)?;
+    let mut chip = put_on_bench(alloc, &library, b"Wired", Memories::Gates)?;
     holds(&rt, "Wired", follows_its_table(&mut chip));
     Ok(())
 }

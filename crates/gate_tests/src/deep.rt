@@ -8,7 +8,7 @@ use crate::checks::is_told;
 use crate::chips::{read, shipped_nand};
 use crate::refusals::why_not;
 use hdl_names::NamedChips;
-use hdl_tree::{Entry, Library};
+use hdl_tree::{Entry, Library, Memories};
 use std::alloc::Global;
 use std::test::Fail;
 
@@ -95,7 +95,7 @@ fn stacked(alloc: Global, first: &[u8]) -> Result<Library, Fail>
 // What is reported of the last chip.
 fn fault_of_last(alloc: Global, first: &[u8]) -> Result<String, Fail> {
     let library = stacked(alloc, first)?;
-    why_not(alloc, &library, b"C49999", false)
+    why_not(alloc, &library, b"C49999", Memories::Gates)
 }
 
 const BOTTOM: &[u8] = b"CHIP C0 { IN in; OUT out; PARTS: Nand(a=in, b=in, out=out); }";

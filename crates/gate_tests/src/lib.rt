@@ -1,5 +1,5 @@
-//! Tests of elaborated chips (book, chapters 1 to 5): why a chip has no netlist, what chips do in the simulator, and the Computer made of
-//! gates.
+//! Tests of elaborated chips (book, chapters 1 to 5): why a chip has no netlist, what chips do in the simulator, and
+//! the Computer made of gates.
 #![tactic(auto)]
 
 #[cfg(test)]

@@ -8,7 +8,7 @@ ghost use Rattle.hack_cpu.specs.Libraries.{IsLibrary};
 use crate::bench::{Bench, put_on_bench};
 use crate::checks::holds;
 use crate::chips::{library_of_own, shipped_library};
-use hdl_tree::Library;
+use hdl_tree::{Library, Memories};
 use std::alloc::Global;
 use std::test::Fail;
 
@@ -28,10 +28,13 @@ fn inputs_from(number: u64) -> u64 {
 
 // Whether two chips with the inputs of a memory give the same in this many cycles of such inputs.
 fn agree(one: &mut Bench, other: &mut Bench, cycles: u32) -> bool
-    requires one_pins { All (λ node. slice_get one.old.sim.net.nodes node ≡ Some Pin) one.old.inputs.items }
+    requires one_pins { All
+        (λ node. slice_get one.old.sim.net.nodes node ≡ Some Pin) one.old.inputs.items }
     requires one_there { All (λ node. node < length one.old.sim.net.nodes) one.old.outputs.items }
-    requires other_pins { All (λ node. slice_get other.old.sim.net.nodes node ≡ Some Pin) other.old.inputs.items }
-    requires other_there { All (λ node. node < length other.old.sim.net.nodes) other.old.outputs.items }
+    requires other_pins { All
+        (λ node. slice_get other.old.sim.net.nodes node ≡ Some Pin) other.old.inputs.items }
+    requires other_there { All
+        (λ node. node < length other.old.sim.net.nodes) other.old.outputs.items }
 {
     let mut number = 1;
     for cycle in 0..cycles {
@@ -66,8 +69,8 @@ fn agrees_with_its_block(
 ) -> Result<bool, Fail>
     requires { IsLibrary library.now.entries }
 {
-    let mut gates = put_on_bench(alloc, library, name, false)?;
-    let mut block = put_on_bench(alloc, library, name, true)?;
+    let mut gates = put_on_bench(alloc, library, name, Memories::Gates)?;
+    let mut block = put_on_bench(alloc, library, name, Memories::Blocks)?;
     Ok(agree(&mut gates, &mut block, cycles))
 }
 
@@ -84,7 +87,8 @@ fn gates_agree_with_blocks(rt: HostRuntime) -> Result<(), Fail> {
 
 // The outputs of a chip at two inputs, and in the cycle after that.
 fn three_outputs(chip: &mut Bench, first: u64, second: u64) -> [u64; 3]
-    requires pins { All (λ node. slice_get chip.old.sim.net.nodes node ≡ Some Pin) chip.old.inputs.items }
+    requires pins { All
+        (λ node. slice_get chip.old.sim.net.nodes node ≡ Some Pin) chip.old.inputs.items }
     requires there { All (λ node. node < length chip.old.sim.net.nodes) chip.old.outputs.items }
 {
     let at_first = chip.try_inputs(first);
@@ -94,7 +98,7 @@ fn three_outputs(chip: &mut Bench, first: u64, second: u64) -> [u64; 3]
 
 fn outputs_of_own_ram8(alloc: Global) -> Result<[u64; 3], Fail> {
     let library = library_of_own(alloc, OWN_RAM8)?;
-    let mut chip = put_on_bench(alloc, &library, b"RAM8", true)?;
+    let mut chip = put_on_bench(alloc, &library, b"RAM8", Memories::Blocks)?;
     Ok(three_outputs(&mut chip, 65537, 65536))
 }
 

@@ -6,7 +6,7 @@ ghost use Rattle.hack_cpu.specs.Libraries.{IsLibrary};
 use crate::checks::is_told;
 use crate::chips::{add_text, answer, library_with, shipped_library};
 use hdl_elab::ElaborationFault;
-use hdl_tree::{Library, Name};
+use hdl_tree::{Library, Memories, Name};
 use std::alloc::{AllocError, Global};
 use std::test::*;
 
@@ -32,10 +32,15 @@ fn fault_text(alloc: Global, fault: &ElaborationFault) -> Result<String, AllocEr
 }
 
 /// Why a chip has no netlist; nothing, if it has one.
-pub fn why_not(alloc: Global, library: &Library, name: &[u8], blocks: bool) -> Result<String, Fail>
+pub fn why_not(
+    alloc: Global,
+    library: &Library,
+    name: &[u8],
+    memories: Memories,
+) -> Result<String, Fail>
     requires { IsLibrary library.now.entries }
 {
-    match answer(alloc, library, name, blocks)? {
+    match answer(alloc, library, name, memories)? {
         Ok(_) => Ok(String::new(alloc)),
         Err(fault) => Ok(fault_text(alloc, &fault)?),
     }
@@ -95,7 +100,7 @@ const TWICE: &[u8] =
 fn fault_of(alloc: Global, parts: &str) -> Result<String, Fail> {
     let text = format!(in alloc; "CHIP F {{ IN a, b[2]; OUT out; PARTS: {parts} }}")?;
     let library = library_with(alloc, &[text.as_bytes(), BAD, TWICE])?;
-    why_not(alloc, &library, b"F", true)
+    why_not(alloc, &library, b"F", Memories::Blocks)
 }
 
 #[test]
@@ -133,7 +138,7 @@ fn chained(alloc: Global, first: &[u8]) -> Result<Library, Fail>
 
 fn fault_of_last(alloc: Global, first: &[u8]) -> Result<String, Fail> {
     let library = chained(alloc, first)?;
-    why_not(alloc, &library, b"C40", false)
+    why_not(alloc, &library, b"C40", Memories::Gates)
 }
 
 // The first of the forty chips, and what is reported of the last.

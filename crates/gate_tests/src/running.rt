@@ -45,7 +45,8 @@ fn press(computer: &mut GateComputer, keys: &[u16])
     }
 }
 
-// What a test looks at after a run: a word of main memory, a word of the screen, and the numbers of cycles and of keys heard.
+// What a test looks at after a run: a word of main memory, a word of the screen, and the numbers of cycles and of keys
+// heard.
 #[derive(Clone, Copy)]
 struct Seen {
     main: u16,

@@ -1,9 +1,10 @@
-//! A chip of 500 inputs of 16 bits, which leads each of them through a chain to its output: what is told of its loops takes no search for each
-//! pair of bits.
+//! A chip of 500 inputs of 16 bits, which leads each of them through a chain to its output. What is told of its loops
+//! takes no search for each pair of bits.
 
 use crate::checks::is_told;
 use crate::chips::library_with;
 use crate::refusals::why_not;
+use hdl_tree::Memories;
 use std::alloc::{AllocError, Global};
 use std::test::*;
 
@@ -38,7 +39,7 @@ fn chain_through_all_inputs(rt: HostRuntime) -> Result<(), Fail> {
     let alloc = rt.alloc();
     let text = sum_text(alloc, 500)?;
     let library = library_with(alloc, &[text.as_bytes()])?;
-    let why = why_not(alloc, &library, b"Sum", true)?;
+    let why = why_not(alloc, &library, b"Sum", Memories::Blocks)?;
     is_told(&rt, "Sum", &why, "");
     Ok(())
 }

@@ -47,7 +47,8 @@ pub fn cut_between_blanks<'a, C: Cutter<'a>>(
     cutter: &C,
     text: &'a [u8],
 ) -> Result<(Vec<C::Token>, Place), ReadError>
-    ensures tokens { Gives (λ x. map C.view x.0.items) result (tokens_between_blanks C.piece text.now) }
+    ensures tokens { Gives (λ x. map C.view x.0.items) result
+        (tokens_between_blanks C.piece text.now) }
     ensures end { IfOk result (λ x. x.1 ≡ walk start text.now) }
 {
     if text.len() > MOST_BYTES {
@@ -62,7 +63,8 @@ fn cut<'a, C: Cutter<'a>>(
     text: &'a [u8],
 ) -> Result<(Vec<C::Token>, Place), ReadError>
     requires { length text.now < 2 ^ 32 - 1 }
-    ensures tokens { Gives (λ x. map C.view x.0.items) result (cut (past_blanks C.piece) closes_with_nothing None 0 start text.now) }
+    ensures tokens { Gives (λ x. map C.view x.0.items) result
+        (cut (past_blanks C.piece) closes_with_nothing None 0 start text.now) }
     ensures end { IfOk result (λ x. x.1 ≡ walk start text.now) }
 {
     let mut tokens = Vec::new(alloc);

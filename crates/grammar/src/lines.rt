@@ -63,7 +63,8 @@ pub fn comment<T: LineToken>(scan: &mut Scan) -> Result<Option<T>, Fault>
 
 /// The line end that begins here. Grammar, where none does.
 pub fn line_end<T: LineToken>(scan: &mut Scan) -> Result<Option<T>, Fault>
-    ensures { NextBy T.view (line_end_piece T.line_end_token (left_bytes scan.old)) scan.old result scan.new }
+    ensures { NextBy T.view (line_end_piece T.line_end_token (left_bytes scan.old)) scan.old
+        result scan.new }
 {
     let place = scan.place();
     if scan.line_end() {
@@ -85,7 +86,8 @@ fn is_open<T: LineToken>(tokens: &[T]) -> bool
 
 // What stands at the end of the text.
 fn close<T: LineToken>(tokens: &mut Vec<T>, place: Place) -> Result<(), AllocError>
-    ensures { OnOk result (map T.view tokens.new.items ≡ map T.view tokens.old.items ++ close T.line_end_token T.ends (last_of (map T.view tokens.old.items)) place) }
+    ensures { OnOk result (map T.view tokens.new.items ≡ map T.view tokens.old.items
+        ++ close T.line_end_token T.ends (last_of (map T.view tokens.old.items)) place) }
 {
     if is_open(tokens) {
         tokens.push(T::line_end(place))?;
@@ -95,7 +97,8 @@ fn close<T: LineToken>(tokens: &mut Vec<T>, place: Place) -> Result<(), AllocErr
 
 fn cut<'a, T: LineCutter<'a>>(alloc: Global, text: &'a [u8]) -> Result<(Vec<T>, Place), ReadError>
     requires { length text.now < 2 ^ 32 - 1 }
-    ensures tokens { Gives (λ x. map T.view x.0.items) result (cut T.piece (close T.line_end_token T.ends) None 0 start text.now) }
+    ensures tokens { Gives (λ x. map T.view x.0.items) result
+        (cut T.piece (close T.line_end_token T.ends) None 0 start text.now) }
     ensures end { IfOk result (λ x. x.1 ≡ walk start text.now) }
 {
     let mut tokens = Vec::new(alloc);
@@ -117,7 +120,8 @@ pub fn cut_lines<'a, T: LineCutter<'a>>(
     alloc: Global,
     text: &'a [u8],
 ) -> Result<(Vec<T>, Place), ReadError>
-    ensures tokens { Gives (λ x. map T.view x.0.items) result (cut_text T.piece (close T.line_end_token T.ends) text.now) }
+    ensures tokens { Gives (λ x. map T.view x.0.items) result
+        (cut_text T.piece (close T.line_end_token T.ends) text.now) }
     ensures end { IfOk result (λ x. x.1 ≡ walk start text.now) }
 {
     if text.len() > MOST_BYTES {

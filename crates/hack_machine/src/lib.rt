@@ -93,7 +93,8 @@ fn write_at(ram: &mut Vec<u16>, a: u16, v: u16)
 fn store(ram: &mut Vec<u16>, dest: u8, a: u16, v: u16)
     requires { length ram.old.items ≡ keyboard }
     ensures kept { length ram.new.items ≡ length ram.old.items }
-    ensures words { words_of ram.new.items ≡ (if has_bit dest 0 then write (words_of ram.old.items) a v else words_of ram.old.items) }
+    ensures words { words_of ram.new.items
+        ≡ (if has_bit dest 0 then write (words_of ram.old.items) a v else words_of ram.old.items) }
 {
     if bit(u16::from(dest), 0) {
         write_at(ram, a, v);
@@ -236,7 +237,8 @@ impl Hack {
         ensures step { machine_of self.new ≡ step self.old.image key (machine_of self.old) }
         ensures acts { result ≡ Moved.Acted }
         ensures run { (keys : List ℕ) → HasRun self.old keys → HasRun self.new (keys ++ key ∷ []) }
-        ensures changed { (changes : List Change) → HasChanged self.old changes → HasChanged self.new (changes ++ Press key ∷ []) }
+        ensures changed { (changes : List Change) → HasChanged self.old changes
+            → HasChanged self.new (changes ++ Press key ∷ []) }
     {
         self.perform(key);
         self.moves += 1;
@@ -247,8 +249,10 @@ impl Hack {
     pub fn set_a(&mut self, value: u16)
         ensures image { self.new.image ≡ self.old.image }
         ensures moves { self.new.moves ≡ self.old.moves }
-        ensures put { machine_of self.new ≡ after self.old.image (PutA value) (machine_of self.old) }
-        ensures changed { (changes : List Change) → HasChanged self.old changes → HasChanged self.new (changes ++ PutA value ∷ []) }
+        ensures put { machine_of self.new
+            ≡ after self.old.image (PutA value) (machine_of self.old) }
+        ensures changed { (changes : List Change) → HasChanged self.old changes
+            → HasChanged self.new (changes ++ PutA value ∷ []) }
     {
         self.a = value;
     }
@@ -257,8 +261,10 @@ impl Hack {
     pub fn set_d(&mut self, value: u16)
         ensures image { self.new.image ≡ self.old.image }
         ensures moves { self.new.moves ≡ self.old.moves }
-        ensures put { machine_of self.new ≡ after self.old.image (PutD value) (machine_of self.old) }
-        ensures changed { (changes : List Change) → HasChanged self.old changes → HasChanged self.new (changes ++ PutD value ∷ []) }
+        ensures put { machine_of self.new
+            ≡ after self.old.image (PutD value) (machine_of self.old) }
+        ensures changed { (changes : List Change) → HasChanged self.old changes
+            → HasChanged self.new (changes ++ PutD value ∷ []) }
     {
         self.d = value;
     }
@@ -268,8 +274,10 @@ impl Hack {
         requires { value < 32768 }
         ensures image { self.new.image ≡ self.old.image }
         ensures moves { self.new.moves ≡ self.old.moves }
-        ensures put { machine_of self.new ≡ after self.old.image (PutPc value) (machine_of self.old) }
-        ensures changed { (changes : List Change) → HasChanged self.old changes → HasChanged self.new (changes ++ PutPc value ∷ []) }
+        ensures put { machine_of self.new
+            ≡ after self.old.image (PutPc value) (machine_of self.old) }
+        ensures changed { (changes : List Change) → HasChanged self.old changes
+            → HasChanged self.new (changes ++ PutPc value ∷ []) }
     {
         self.pc = value;
     }
@@ -279,8 +287,10 @@ impl Hack {
         requires { address < keyboard }
         ensures image { self.new.image ≡ self.old.image }
         ensures moves { self.new.moves ≡ self.old.moves }
-        ensures put { machine_of self.new ≡ after self.old.image (PutWord address value) (machine_of self.old) }
-        ensures changed { (changes : List Change) → HasChanged self.old changes → HasChanged self.new (changes ++ PutWord address value ∷ []) }
+        ensures put { machine_of self.new
+            ≡ after self.old.image (PutWord address value) (machine_of self.old) }
+        ensures changed { (changes : List Change) → HasChanged self.old changes
+            → HasChanged self.new (changes ++ PutWord address value ∷ []) }
     {
         self.ram[address as usize] = value;
     }

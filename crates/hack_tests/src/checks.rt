@@ -1,5 +1,5 @@
-//! Checks. A check that fails tells its row. An assertion that is written out costs a test some hundred steps to prove, and
-//! the call of a check ten.
+//! Checks. A check that fails tells its row. An assertion that is written out costs a test some hundred steps to prove,
+//! and the call of a check ten.
 use std::process::Abort;
 
 /// A text is the one that was expected.

@@ -4,8 +4,8 @@ use machine_io::{Level, Moved};
 use std::alloc::{AllocError, Global};
 use std::process::Abort;
 
-// This many steps under a key, and then: A, D and the program counter, words at their addresses, and what is seen under a key at
-// an address.
+// This many steps under a key, and then: A, D and the program counter, words at their addresses, and what is seen under
+// a key at an address.
 struct Look<'a> {
     steps: u16,
     key: u16,

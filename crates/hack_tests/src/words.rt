@@ -1,7 +1,8 @@
 use crate::checks::{holds, is_word};
 use word16::{bits_of, eq, gt, lt, sub, word_of};
 
-// Two words, and whether the first is below and above the second. -20000 is the word 45536; each difference is past a signed word.
+// Two words, and whether the first is below and above the second. -20000 is the word 45536; each difference is past a
+// signed word.
 const ORDERED: &[(u16, u16, (bool, bool))] = &[
     (20000, 45536, (false, true)),
     (45536, 20000, (true, false)),

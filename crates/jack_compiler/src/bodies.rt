@@ -80,7 +80,8 @@ fn add_value(
     last: Command,
 ) -> Result<(), AllocError>
     requires { Names around.now (the_expression value.now) }
-    ensures { OnOk result (lines.new ≡ lines.old ++ (expression_lines (the_around around.now) n (the_expression value.now) ++ commit_line n last ∷ [])) }
+    ensures { OnOk result (lines.new ≡ lines.old ++ (expression_lines (the_around around.now) n
+        (the_expression value.now) ++ commit_line n last ∷ [])) }
 {
     add_expression(lines, around, n, value)?;
     commit(lines, n, last)
@@ -115,7 +116,9 @@ fn add_element(
     requires base { Names around.now (the_expression base.now) }
     requires index { Names around.now (the_expression index.now) }
     requires value { Names around.now (the_expression value.now) }
-    ensures { OnOk result ((next i w : ℕ) → lines.new ≡ lines.old ++ statement_lines (the_around around.now) next i w (Store n (the_expression base.now) (the_expression index.now) (the_expression value.now))) }
+    ensures { OnOk result
+        ((next i w : ℕ) → lines.new ≡ lines.old ++ statement_lines (the_around around.now) next i w
+        (Store n (the_expression base.now) (the_expression index.now) (the_expression value.now))) }
 {
     add_expression(lines, around, n, base)?;
     add_expression(lines, around, n, index)?;
@@ -188,7 +191,9 @@ fn add_if(
     requires condition { Names around.now (the_expression condition.now) }
     requires holds { NamesText around.now (the_block branches.now.holds.now) }
     requires fails { NamesText around.now (the_block branches.now.fails.now) }
-    ensures { OnOk result (Adds (the_around around.now) next (If n branches.now.has_else (the_expression condition.now) (the_block branches.now.holds.now) (the_block branches.now.fails.now)) body.old body.new) }
+    ensures { OnOk result (Adds (the_around around.now) next
+        (If n branches.now.has_else (the_expression condition.now)
+        (the_block branches.now.holds.now) (the_block branches.now.fails.now)) body.old body.new) }
 {
     let k = body.ifs;
     body.ifs = one_more(k)?;
@@ -220,7 +225,8 @@ fn add_while(
 ) -> Result<(), AllocError>
     requires condition { Names around.now (the_expression condition.now) }
     requires turn { NamesText around.now (the_block turn.now) }
-    ensures { OnOk result (Adds (the_around around.now) next (While n (the_expression condition.now) (the_block turn.now)) body.old body.new) }
+    ensures { OnOk result (Adds (the_around around.now) next
+        (While n (the_expression condition.now) (the_block turn.now)) body.old body.new) }
 {
     let k = body.whiles;
     body.whiles = one_more(k)?;
@@ -240,7 +246,8 @@ fn add_statement(
     s: &Statement,
 ) -> Result<(), AllocError>
     requires { NamesIn around.now (the_statement s.now) }
-    ensures { OnOk result (Adds (the_around around.now) next (the_statement s.now) body.old body.new) }
+    ensures { OnOk result
+        (Adds (the_around around.now) next (the_statement s.now) body.old body.new) }
 {
     match s {
         Statement::Let { number, value, .. }
@@ -291,7 +298,8 @@ pub(crate) fn add_statements(
     ss: &[Statement],
 ) -> Result<(), AllocError>
     requires { NamesText around.now (the_block ss.now) }
-    ensures { OnOk result (AddsText (the_around around.now) next (the_block ss.now) body.old body.new) }
+    ensures { OnOk result
+        (AddsText (the_around around.now) next (the_block ss.now) body.old body.new) }
 {
     for (index, s) in ss.iter().enumerate() {
         let following = first_number(next, &ss[index + 1..]);

@@ -107,7 +107,8 @@ fn add_part(
     part: Part,
 ) -> Result<(), AllocError>
     requires { NamesPart around.now part }
-    ensures { OnOk result (lines.new ≡ lines.old ++ part_lines (the_around around.now) statement part) }
+    ensures { OnOk result
+        (lines.new ≡ lines.old ++ part_lines (the_around around.now) statement part) }
 {
     match part {
         Part::Literal(word) => add_literal(lines, statement, word),
@@ -138,7 +139,8 @@ pub(crate) fn add_expression(
     e: &Expression,
 ) -> Result<(), AllocError>
     requires { Names around.now (the_expression e.now) }
-    ensures { OnOk result (lines.new ≡ lines.old ++ expression_lines (the_around around.now) statement (the_expression e.now)) }
+    ensures { OnOk result (lines.new
+        ≡ lines.old ++ expression_lines (the_around around.now) statement (the_expression e.now)) }
 {
     for part in &e.parts {
         add_part(lines, around, statement, *part)?;

@@ -14,7 +14,8 @@ fn add(
     commit: bool,
     command: Command,
 ) -> Result<(), AllocError>
-    ensures { OnOk result (lines.new ≡ lines.old ++ record { command = command; statement = statement; commit = commit } ∷ []) }
+    ensures { OnOk result (lines.new
+        ≡ lines.old ++ record { command = command; statement = statement; commit = commit } ∷ []) }
 {
     lines.push(Line {
         command,
@@ -62,7 +63,8 @@ pub(crate) fn add_label(
     word: &str,
     number: u32,
 ) -> Result<(), AllocError>
-    ensures { OnOk result (lines.new ≡ lines.old ++ quiet_line statement (command.Label (word.now ++ decimal number)) ∷ []) }
+    ensures { OnOk result (lines.new
+        ≡ lines.old ++ quiet_line statement (command.Label (word.now ++ decimal number)) ∷ []) }
 {
     let label = label(alloc, word, number)?;
     quiet(lines, statement, Command::Label(label))
@@ -76,7 +78,8 @@ pub(crate) fn add_goto(
     word: &str,
     number: u32,
 ) -> Result<(), AllocError>
-    ensures { OnOk result (lines.new ≡ lines.old ++ quiet_line statement (command.Goto (word.now ++ decimal number)) ∷ []) }
+    ensures { OnOk result (lines.new
+        ≡ lines.old ++ quiet_line statement (command.Goto (word.now ++ decimal number)) ∷ []) }
 {
     let label = label(alloc, word, number)?;
     quiet(lines, statement, Command::Goto(label))
@@ -90,7 +93,8 @@ pub(crate) fn add_if_goto(
     word: &str,
     number: u32,
 ) -> Result<(), AllocError>
-    ensures { OnOk result (lines.new ≡ lines.old ++ commit_line statement (command.IfGoto (word.now ++ decimal number)) ∷ []) }
+    ensures { OnOk result (lines.new
+        ≡ lines.old ++ commit_line statement (command.IfGoto (word.now ++ decimal number)) ∷ []) }
 {
     let label = label(alloc, word, number)?;
     commit(lines, statement, Command::IfGoto(label))

@@ -32,7 +32,8 @@ fn add_object(lines: &mut List<Line>, kind: Kind, n: u32) -> Result<(), AllocErr
 // The function of a subroutine.
 fn function_of(around: &Around<'_>, number: usize, sub: &Subroutine) -> Result<Function, AllocError>
     requires { NamesAll around.now number (the_subroutine sub.now) }
-    ensures { IfOk result (λ f. f ≡ function_made (the_around around.now) number (the_subroutine sub.now)) }
+    ensures { IfOk result
+        (λ f. f ≡ function_made (the_around around.now) number (the_subroutine sub.now)) }
 {
     let mut body = Body {
         lines: List::new(around.alloc),
@@ -58,7 +59,9 @@ fn sum(a: u32, b: u32) -> Result<u32, AllocError>
 
 // How many statics the classes before each class have.
 fn statics_before(alloc: Global, classes: &[Class]) -> Result<Vec<u32>, AllocError>
-    ensures { IfOk result (λ v. (length v.items ≡ length classes.now) × ((k : ℕ) → k < length classes.now → slice_index v.items k ≡ statics_before (map the_class classes.now) k)) }
+    ensures { IfOk result
+        (λ v. (length v.items ≡ length classes.now) × ((k : ℕ) → k < length classes.now
+        → slice_index v.items k ≡ statics_before (map the_class classes.now) k)) }
 {
     let mut before = Vec::new(alloc);
     let mut statics: u32 = 0;
@@ -91,7 +94,8 @@ fn hollow_function(
     sub: &Subroutine,
 ) -> Result<Function, AllocError>
     requires { NamesAll around.now number (the_subroutine sub.now) }
-    ensures { IfOk result (λ f. f ≡ function_made (the_around around.now) number (whole_if false (the_subroutine sub.now))) }
+    ensures { IfOk result (λ f. f
+        ≡ function_made (the_around around.now) number (whole_if false (the_subroutine sub.now))) }
 {
     let name = name_at(around, number)?;
     Ok(Function {
@@ -109,7 +113,8 @@ fn function_where(
     wanted: bool,
 ) -> Result<Function, AllocError>
     requires { NamesAll around.now number (the_subroutine sub.now) }
-    ensures { IfOk result (λ f. f ≡ function_made (the_around around.now) number (whole_if wanted (the_subroutine sub.now))) }
+    ensures { IfOk result (λ f. f
+        ≡ function_made (the_around around.now) number (whole_if wanted (the_subroutine sub.now))) }
 {
     if wanted {
         function_of(around, number, sub)
@@ -128,7 +133,8 @@ fn add_function(
 ) -> Result<(), AllocError>
     requires names { NamesAll around.now number (the_subroutine sub.now) }
     requires class { sub.now.class < length files.old.items }
-    ensures { OnOk result (AddsFunction (the_around around.now) number (whole_if wanted (the_subroutine sub.now)) files.old.items files.new.items) }
+    ensures { OnOk result (AddsFunction (the_around around.now) number
+        (whole_if wanted (the_subroutine sub.now)) files.old.items files.new.items) }
 {
     let function = function_where(around, number, sub, wanted)?;
     files[sub.class as usize].functions.push(function)?;
@@ -154,7 +160,9 @@ fn with_functions(
 ) -> Result<Vec<File>, AllocError>
     requires resolved { IsResolvedCore core.now }
     requires others { others.now ≡ drop 1 core.now.subroutines.items }
-    ensures { IfOk result (λ v. AreFiles (map the_class core.now.classes.items) (names_of core.now) (class_names_of core.now) (whole_where (option_map (λ m. m.now) marks.entry) 1 (map the_subroutine others.now)) v.items) }
+    ensures { IfOk result (λ v. AreFiles (map the_class core.now.classes.items) (names_of core.now)
+        (class_names_of core.now) (whole_where (option_map (λ m. m.now) marks.entry) 1
+        (map the_subroutine others.now)) v.items) }
 {
     let before = statics_before(alloc, &core.classes)?;
     let mut files = files(alloc, &core.classes)?;

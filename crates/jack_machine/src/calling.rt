@@ -39,7 +39,8 @@ fn enter_subroutine(
     subroutine: &Subroutine,
     arguments: Vec<u16>,
 ) -> Result<Frame, AllocError>
-    ensures { IfOk result (λ f. the_frame f ≡ entered_frame g (the_subroutine subroutine.now) arguments.items) }
+    ensures { IfOk result
+        (λ f. the_frame f ≡ entered_frame g (the_subroutine subroutine.now) arguments.items) }
 {
     let this = this_in(subroutine.kind, &arguments);
     let locals = vec![in alloc; 0u16; subroutine.locals as usize]?;
@@ -63,7 +64,8 @@ pub(crate) fn enter(
     arguments: Vec<u16>,
 ) -> Result<Frame, AllocError>
     requires { g < length subroutines.now }
-    ensures { IfOk result (λ f. the_frame f ≡ new_frame (map the_subroutine subroutines.now) g arguments.items) }
+    ensures { IfOk result
+        (λ f. the_frame f ≡ new_frame (map the_subroutine subroutines.now) g arguments.items) }
 {
     enter_subroutine(alloc, g, &subroutines[g as usize], arguments)
 }
@@ -77,7 +79,8 @@ pub(crate) fn call<'a>(
     entered: Frame<'a>,
 ) -> Result<(), AllocError>
     requires { IsNext part top.old }
-    ensures done { OnOk result (IsEntered part top.old below.old.items entered.entry top.new below.new.items) }
+    ensures done { OnOk result
+        (IsEntered part top.old below.old.items entered.entry top.new below.new.items) }
     ensures refused { OnErr result (the_frame top.new ≡ the_frame top.old) }
     ensures refused_below { OnErr result (below.new.items ≡ below.old.items) }
 {

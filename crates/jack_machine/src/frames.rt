@@ -74,7 +74,8 @@ fn apply<'a>(
     first: &'a Statement,
     effect: Effect,
 ) -> Result<Act, AllocError>
-    ensures done { IfOk result (λ act. Applies first.now effect top.old memory.old act top.new memory.new) }
+    ensures done { IfOk result
+        (λ act. Applies first.now effect top.old memory.old act top.new memory.new) }
     ensures refused { OnErr result (IsSameTop top.old memory.old top.new memory.new) }
 {
     match effect {
@@ -111,7 +112,8 @@ fn apply<'a>(
 // The first statement acts; all its parts are values.
 fn act_first(top: &mut Frame, memory: &mut Memory) -> Result<Act, AllocError>
     requires { slice_get (parts_of top.old.text.front.first) top.old.text.front.done ≡ None }
-    ensures done { IfOk result (λ act. (subs : List ASubroutine) (below : List AFrame) (key : ℕ) → TopStep subs below key top.old memory.old act top.new memory.new) }
+    ensures done { IfOk result (λ act. (subs : List ASubroutine) (below : List AFrame) (key : ℕ)
+        → TopStep subs below key top.old memory.old act top.new memory.new) }
     ensures refused { OnErr result (IsSameTop top.old memory.old top.new memory.new) }
 {
     match top.text.front.first {
@@ -130,7 +132,8 @@ fn act_first(top: &mut Frame, memory: &mut Memory) -> Result<Act, AllocError>
 // What the part that is next makes of the values before it.
 fn look(top: &Frame, memory: &Memory, part: Part) -> Sight
     requires { IsNext part top.now }
-    ensures sees { (key : ℕ) → Sees (the_view top.now.variables memory.now key) part top.now.text.front.values.items result }
+    ensures sees { (key : ℕ) → Sees
+        (the_view top.now.variables memory.now key) part top.now.text.front.values.items result }
     ensures call { IsOfCall part result }
 {
     look_at(&top.variables, memory, &top.text.front.values, part)
@@ -139,7 +142,8 @@ fn look(top: &Frame, memory: &Memory, part: Part) -> Sight
 // The part that is next becomes a value, or it comes to a call.
 fn step_part(top: &mut Frame, memory: &Memory, part: Part, key: u16) -> Result<Act, AllocError>
     requires { IsNext part top.old }
-    ensures done { IfOk result (λ act. (subs : List ASubroutine) (below : List AFrame) → TopStep subs below key top.old memory.now act top.new memory.now) }
+    ensures done { IfOk result (λ act. (subs : List ASubroutine) (below : List AFrame)
+        → TopStep subs below key top.old memory.now act top.new memory.now) }
     ensures refused { OnErr result (IsSameTop top.old memory.now top.new memory.now) }
 {
     match look(top, memory, part) {
@@ -158,7 +162,8 @@ fn step_part(top: &mut Frame, memory: &Memory, part: Part, key: u16) -> Result<A
 
 /// The next step of the top frame. A call or a return is left to the caller.
 pub(crate) fn step_top(top: &mut Frame, memory: &mut Memory, key: u16) -> Result<Act, AllocError>
-    ensures done { IfOk result (λ act. (subs : List ASubroutine) (below : List AFrame) → TopStep subs below key top.old memory.old act top.new memory.new) }
+    ensures done { IfOk result (λ act. (subs : List ASubroutine) (below : List AFrame)
+        → TopStep subs below key top.old memory.old act top.new memory.new) }
     ensures refused { OnErr result (IsSameTop top.old memory.old top.new memory.new) }
 {
     match next_part(&top.text.front) {

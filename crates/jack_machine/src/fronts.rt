@@ -22,5 +22,6 @@ pub(crate) struct Front<'a> {
     pub done: usize,
     pub values: Vec<u16>,
     // Each part that is left finds its operands, and as many values are left as the statement wants.
-    pub ghost fits: { height (length values.items) (drop done (parts_of first)) ≡ Some (wanted_count first) },
+    pub ghost fits: { height (length values.items) (drop done (parts_of first))
+        ≡ Some (wanted_count first) },
 }

@@ -28,7 +28,8 @@ pub struct Jack<'a> {
     alloc: Global,
     // Each subroutine that the program can come to is there, and what is left to do calls no others.
     ghost there: { CallsAreThere (the_program core.now) },
-    ghost reached: { ∥ AreReached (the_program core.now) (the_frame top ∷ the_stack below.items) ∥₁ },
+    ghost reached: { ∥ AreReached (the_program core.now)
+        (the_frame top ∷ the_stack below.items) ∥₁ },
 }
 
 // By hand, so that whoever drops one calls this.
@@ -47,7 +48,8 @@ impl Drop for Jack<'_> {
 
 // The words of all statics, 0.
 fn new_statics(alloc: Global, classes: &[Class]) -> Result<Vec<u16>, AllocError>
-    ensures { IfOk result (λ statics. statics.items ≡ replicate (sum_by (λ c. c.statics) classes.now) 0) }
+    ensures { IfOk result
+        (λ statics. statics.items ≡ replicate (sum_by (λ c. c.statics) classes.now) 0) }
 {
     let mut statics = Vec::new(alloc);
     for class in classes {
@@ -114,7 +116,9 @@ impl<'a> Jack<'a> {
     // A new frame for the call that is next in the top frame, with this many arguments.
     fn make_call(&mut self, g: u32, n: u16) -> Result<(), AllocError>
         requires next { IsNext (part.Call n g) self.old.top }
-        requires reached { ∥ AreReached (the_program self.old.core.now) (called_state (the_subroutines self.old.core.now) self.old.top self.old.memory (the_stack self.old.below.items) g n).frames ∥₁ }
+        requires reached { ∥ AreReached (the_program self.old.core.now)
+            (called_state (the_subroutines self.old.core.now) self.old.top self.old.memory
+            (the_stack self.old.below.items) g n).frames ∥₁ }
         ensures done { OnOk result (IsCalled g n self.old self.new) }
         ensures refused { OnErr result (IsSame self.old self.new) }
         ensures core { self.new.core ≡ self.old.core }

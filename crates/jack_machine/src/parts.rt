@@ -40,7 +40,8 @@ fn part_in_store(
     value: &Expression,
     k: usize,
 ) -> Option<Part>
-    ensures { result ≡ slice_get (base.now.parts.items ++ index.now.parts.items ++ value.now.parts.items) k }
+    ensures { result
+        ≡ slice_get (base.now.parts.items ++ index.now.parts.items ++ value.now.parts.items) k }
 {
     if k < base.parts.len() {
         return part_in(base, k);

@@ -30,7 +30,8 @@ pub(crate) struct Text<'a> {
 
 // The next statement of the innermost row; nothing, where no row is left.
 fn take_next<'a>(after: &mut Vec<Row<'a>>) -> First<'a>
-    ensures { (es : List AnExpression) → begun_text result 0 es (the_after after.new.items) ≡ the_after after.old.items }
+    ensures { (es : List AnExpression)
+        → begun_text result 0 es (the_after after.new.items) ≡ the_after after.old.items }
 {
     match after.pop() {
         None => First::Nothing,
@@ -54,7 +55,8 @@ pub(crate) fn advance(text: &mut Text)
 // A block goes before what follows.
 fn push_block<'a>(after: &mut Vec<Row<'a>>, block: &'a [Statement])
     requires { vec_len after.old < vec_capacity after.old }
-    ensures { the_after after.new.items ≡ joined_text (the_block block.now) (the_after after.old.items) }
+    ensures { the_after after.new.items
+        ≡ joined_text (the_block block.now) (the_after after.old.items) }
 {
     if let Some((first, others)) = block.split_first() {
         after.push_reserved(Row { first, others });
@@ -64,7 +66,8 @@ fn push_block<'a>(after: &mut Vec<Row<'a>>, block: &'a [Statement])
 // A loop goes before what follows, to come again.
 fn push_loop<'a>(after: &mut Vec<Row<'a>>, first: &'a Statement)
     requires { vec_len after.old < vec_capacity after.old }
-    ensures text { the_after after.new.items ≡ Next (the_statement first.now) (the_after after.old.items) }
+    ensures text { the_after after.new.items
+        ≡ Next (the_statement first.now) (the_after after.old.items) }
     ensures len { vec_len after.new ≡ vec_len after.old + 1 }
     ensures capacity { vec_capacity after.new ≡ vec_capacity after.old }
 {
@@ -86,7 +89,8 @@ pub(crate) fn choose<'a>(
     choice: &'a Statement,
     w: u16,
 ) -> Result<(), AllocError>
-    ensures done { OnOk result ((es : List AnExpression) → the_after after.new.items ≡ chosen_text w (Next (written_statement choice.now es) (the_after after.old.items))) }
+    ensures done { OnOk result ((es : List AnExpression) → the_after after.new.items
+        ≡ chosen_text w (Next (written_statement choice.now es) (the_after after.old.items))) }
     ensures refused { OnErr result (after.new.items ≡ after.old.items) }
 {
     after.reserve(2)?;
@@ -127,7 +131,8 @@ pub(crate) fn text_of_block(alloc: Global, block: &[Statement]) -> Result<Text, 
 
 /// A text with nothing done.
 pub(crate) fn text_with<'a>(alloc: Global, first: First<'a>, after: Vec<Row<'a>>) -> Text<'a>
-    ensures { the_text result ≡ begun_text first.entry 0 (build_expressions [] (parts_of first.entry)) (the_after after.entry.items) }
+    ensures { the_text result ≡ begun_text first.entry 0
+        (build_expressions [] (parts_of first.entry)) (the_after after.entry.items) }
 {
     let values = Vec::new(alloc);
     let front = Front {

@@ -59,7 +59,8 @@ fn let_meant<'a>(
     index: &'a Option<Box<Expression>>,
     value: &'a Expression,
 ) -> Result<CoreStatement, AllocError>
-    ensures { IfOk result (λ r. the_statement r ≡ let_meant (the_scope scope.now) number name.now (unbox index.now) value.now) }
+    ensures { IfOk result (λ r. the_statement r
+        ≡ let_meant (the_scope scope.now) number name.now (unbox index.now) value.now) }
 {
     match index {
         None => {
@@ -88,7 +89,8 @@ fn statement_meant<'a>(
     s: &'a Statement,
 ) -> Result<(CoreStatement, u32), AllocError>
     requires { number + size s.now ≤ 2 ^ 31 }
-    ensures text { IfOk result (λ r. the_statement r.0 ≡ statement_meant (the_scope scope.now) number s.now) }
+    ensures text { IfOk result
+        (λ r. the_statement r.0 ≡ statement_meant (the_scope scope.now) number s.now) }
     ensures next { IfOk result (λ r. r.1 ≡ number + size s.now) }
 {
     match s {
@@ -124,7 +126,10 @@ fn if_meant<'a>(
     fails: &'a Option<Vec<Statement>>,
 ) -> Result<(CoreStatement, u32), AllocError>
     requires { number + 1 + sizes holds.now + else_size fails.now ≤ 2 ^ 31 }
-    ensures text { IfOk result (λ r. the_statement r.0 ≡ IfOf number (is_some fails.now) (exp_meant (the_scope scope.now) condition.now) (text_of (statements_meant (the_scope scope.now) (number + 1) holds.now)) (else_meant (the_scope scope.now) (number + 1 + sizes holds.now) fails.now)) }
+    ensures text { IfOk result (λ r. the_statement r.0
+        ≡ IfOf number (is_some fails.now) (exp_meant (the_scope scope.now) condition.now)
+        (text_of (statements_meant (the_scope scope.now) (number + 1) holds.now))
+        (else_meant (the_scope scope.now) (number + 1 + sizes holds.now) fails.now)) }
     ensures next { IfOk result (λ r. r.1 ≡ number + 1 + sizes holds.now + else_size fails.now) }
 {
     let condition = expression_meant(alloc, scope, condition)?;
@@ -151,7 +156,9 @@ fn while_meant<'a>(
     body: &'a [Statement],
 ) -> Result<(CoreStatement, u32), AllocError>
     requires { number + 1 + sizes body.now ≤ 2 ^ 31 }
-    ensures text { IfOk result (λ r. the_statement r.0 ≡ WhileOf number (exp_meant (the_scope scope.now) condition.now) (text_of (statements_meant (the_scope scope.now) (number + 1) body.now))) }
+    ensures text { IfOk result
+        (λ r. the_statement r.0 ≡ WhileOf number (exp_meant (the_scope scope.now) condition.now)
+        (text_of (statements_meant (the_scope scope.now) (number + 1) body.now))) }
     ensures next { IfOk result (λ r. r.1 ≡ number + 1 + sizes body.now) }
 {
     let condition = expression_meant(alloc, scope, condition)?;
@@ -172,7 +179,8 @@ fn else_meant<'a>(
     fails: &'a Option<Vec<Statement>>,
 ) -> Result<(Vec<CoreStatement>, u32), AllocError>
     requires { first + else_size fails.now ≤ 2 ^ 31 }
-    ensures text { IfOk result (λ r. the_block r.0.items ≡ else_meant (the_scope scope.now) first fails.now) }
+    ensures text { IfOk result
+        (λ r. the_block r.0.items ≡ else_meant (the_scope scope.now) first fails.now) }
     ensures next { IfOk result (λ r. r.1 ≡ first + else_size fails.now) }
 {
     match fails {
@@ -190,7 +198,8 @@ pub(crate) fn statements_meant<'a>(
     ss: &'a [Statement],
 ) -> Result<(Vec<CoreStatement>, u32), AllocError>
     requires { first + sizes ss.now ≤ 2 ^ 31 }
-    ensures text { IfOk result (λ r. map the_statement r.0.items ≡ statements_meant (the_scope scope.now) first ss.now) }
+    ensures text { IfOk result
+        (λ r. map the_statement r.0.items ≡ statements_meant (the_scope scope.now) first ss.now) }
     ensures next { IfOk result (λ r. r.1 ≡ first + sizes ss.now) }
 {
     let mut texts = Vec::with_capacity(alloc, ss.len())?;

@@ -43,7 +43,8 @@ fn tell_made(
     place: Place,
     kind: Option<NameKind>,
 ) -> Result<(), NameError>
-    ensures { Checks (made_diagnostic (the_scope scope.now).source class.now name.now place kind) result }
+    ensures { Checks
+        (made_diagnostic (the_scope scope.now).source class.now name.now place kind) result }
 {
     match kind {
         None => Ok(()),

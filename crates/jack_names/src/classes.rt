@@ -53,8 +53,11 @@ fn push_meant<'a>(
     subroutines: &mut Vec<CoreSubroutine>,
 ) -> Result<(), AllocError>
     requires { HasFew s.now }
-    ensures program { OnOk result (map the_subroutine subroutines.new.items ≡ map the_subroutine subroutines.old.items ++ subroutine_meant (the_scope scope.now) owner.entry.fields s.now ∷ []) }
-    ensures names { OnOk result (map the_name subroutines.new.items ≡ map the_name subroutines.old.items ++ subroutine_name owner.entry.name.now s.now ∷ []) }
+    ensures program { OnOk result
+        (map the_subroutine subroutines.new.items ≡ map the_subroutine subroutines.old.items
+        ++ subroutine_meant (the_scope scope.now) owner.entry.fields s.now ∷ []) }
+    ensures names { OnOk result (map the_name subroutines.new.items
+        ≡ map the_name subroutines.old.items ++ subroutine_name owner.entry.name.now s.now ∷ []) }
 {
     let meant = subroutine_meant(alloc, scope, owner, s)?;
     subroutines.push(meant)?;
@@ -71,8 +74,11 @@ fn push_resolved<'a>(
 ) -> Result<(), NameError>
     requires { HasFew s.now }
     ensures checks { Checks (first_fault (the_scope scope.now) (subroutine_uses s.now)) result }
-    ensures program { OnOk result (map the_subroutine subroutines.new.items ≡ map the_subroutine subroutines.old.items ++ subroutine_meant (the_scope scope.now) owner.entry.fields s.now ∷ []) }
-    ensures names { OnOk result (map the_name subroutines.new.items ≡ map the_name subroutines.old.items ++ subroutine_name owner.entry.name.now s.now ∷ []) }
+    ensures program { OnOk result
+        (map the_subroutine subroutines.new.items ≡ map the_subroutine subroutines.old.items
+        ++ subroutine_meant (the_scope scope.now) owner.entry.fields s.now ∷ []) }
+    ensures names { OnOk result (map the_name subroutines.new.items
+        ≡ map the_name subroutines.old.items ++ subroutine_name owner.entry.name.now s.now ∷ []) }
 {
     check_subroutine(alloc, scope, s)?;
     push_meant(alloc, scope, owner, s, subroutines)?;
@@ -87,9 +93,14 @@ fn resolve_subroutine<'a>(
     subroutines: &mut Vec<CoreSubroutine>,
 ) -> Result<(), NameError>
     requires { HasFew s.now }
-    ensures checks { Checks (first_fault (scope_in (the_class_scope class.entry) s.now) (subroutine_uses s.now)) result }
-    ensures program { OnOk result (map the_subroutine subroutines.new.items ≡ map the_subroutine subroutines.old.items ++ subroutine_meant (scope_in (the_class_scope class.entry) s.now) owner.entry.fields s.now ∷ []) }
-    ensures names { OnOk result (map the_name subroutines.new.items ≡ map the_name subroutines.old.items ++ subroutine_name owner.entry.name.now s.now ∷ []) }
+    ensures checks { Checks
+        (first_fault (scope_in (the_class_scope class.entry) s.now) (subroutine_uses s.now))
+        result }
+    ensures program { OnOk result (map the_subroutine subroutines.new.items
+        ≡ map the_subroutine subroutines.old.items ++ subroutine_meant
+        (scope_in (the_class_scope class.entry) s.now) owner.entry.fields s.now ∷ []) }
+    ensures names { OnOk result (map the_name subroutines.new.items
+        ≡ map the_name subroutines.old.items ++ subroutine_name owner.entry.name.now s.now ∷ []) }
 {
     let locals = variables_of(alloc, class.names, s)?;
     let scope = scope_in(class, &locals, s);
@@ -105,8 +116,12 @@ fn resolve_subroutines<'a>(
 ) -> Result<(), NameError>
     requires { AllHaveFew trees.now }
     ensures checks { Checks (class_fault (the_class_scope class.entry) trees.now) result }
-    ensures program { OnOk result (map the_subroutine subroutines.new.items ≡ map the_subroutine subroutines.old.items ++ class_subroutines (the_class_scope class.entry) owner.entry.fields trees.now) }
-    ensures names { OnOk result (map the_name subroutines.new.items ≡ map the_name subroutines.old.items ++ map (subroutine_name owner.entry.name.now) trees.now) }
+    ensures program { OnOk result
+        (map the_subroutine subroutines.new.items ≡ map the_subroutine subroutines.old.items
+        ++ class_subroutines (the_class_scope class.entry) owner.entry.fields trees.now) }
+    ensures names { OnOk result
+        (map the_name subroutines.new.items ≡ map the_name subroutines.old.items
+        ++ map (subroutine_name owner.entry.name.now) trees.now) }
 {
     let mut rest = trees;
     while let Some((s, others)) = rest.split_first() {
@@ -125,8 +140,10 @@ fn class_scope<'a, 'b>(
     statics: u32,
     class: &'b Class,
 ) -> ClassScope<'a, 'b>
-    requires { Finds members.now (member_entries (the_symbols names.now) 0 statics class.now.variables.items) }
-    ensures { the_class_scope result ≡ class_scope (the_symbols names.now) shipped own statics class.now }
+    requires { Finds members.now
+        (member_entries (the_symbols names.now) 0 statics class.now.variables.items) }
+    ensures { the_class_scope result
+        ≡ class_scope (the_symbols names.now) shipped own statics class.now }
 {
     let file = File {
         shipped,
@@ -152,9 +169,16 @@ fn resolve_class<'a>(
 ) -> Result<(), NameError>
     requires statics { statics + statics_of class.now.variables.items ≤ 2 ^ 31 }
     requires limits { IsWithin class.now }
-    ensures checks { Checks (class_fault (class_scope (the_symbols names.now) shipped own statics class.now) class.now.subroutines.items) result }
-    ensures program { OnOk result (map the_subroutine subroutines.new.items ≡ map the_subroutine subroutines.old.items ++ class_subroutines (class_scope (the_symbols names.now) shipped own statics class.now) (fields_of class.now.variables.items) class.now.subroutines.items) }
-    ensures names { OnOk result (map the_name subroutines.new.items ≡ map the_name subroutines.old.items ++ map (subroutine_name class.now.name.text) class.now.subroutines.items) }
+    ensures checks { Checks
+        (class_fault (class_scope (the_symbols names.now) shipped own statics class.now)
+        class.now.subroutines.items) result }
+    ensures program { OnOk result
+        (map the_subroutine subroutines.new.items ≡ map the_subroutine subroutines.old.items
+        ++ class_subroutines (class_scope (the_symbols names.now) shipped own statics class.now)
+        (fields_of class.now.variables.items) class.now.subroutines.items) }
+    ensures names { OnOk result
+        (map the_name subroutines.new.items ≡ map the_name subroutines.old.items
+        ++ map (subroutine_name class.now.name.text) class.now.subroutines.items) }
 {
     let members = members_of(alloc, names, statics, &class.variables)?;
     let scope = class_scope(names, &members, shipped, own, statics, class);
@@ -180,9 +204,13 @@ pub(crate) fn resolve_classes<'a>(
     requires few { first + length classes.now ≤ 2 ^ 31 }
     requires statics { before + all_statics classes.now ≤ 2 ^ 31 }
     requires limits { AreWithin classes.now }
-    ensures checks { Checks (uses_fault (the_symbols names.now) shipped first before classes.now) result }
-    ensures program { OnOk result (map the_subroutine subroutines.new.items ≡ map the_subroutine subroutines.old.items ++ subroutines_meant (the_symbols names.now) shipped first before classes.now) }
-    ensures names { OnOk result (map the_name subroutines.new.items ≡ map the_name subroutines.old.items ++ names_meant classes.now) }
+    ensures checks { Checks
+        (uses_fault (the_symbols names.now) shipped first before classes.now) result }
+    ensures program { OnOk result
+        (map the_subroutine subroutines.new.items ≡ map the_subroutine subroutines.old.items
+        ++ subroutines_meant (the_symbols names.now) shipped first before classes.now) }
+    ensures names { OnOk result (map the_name subroutines.new.items
+        ≡ map the_name subroutines.old.items ++ names_meant classes.now) }
 {
     let mut own = first;
     let mut statics = before;
@@ -244,8 +272,11 @@ pub(crate) fn resolve_system<'a>(
     requires statics { before + all_statics classes.now ≤ 2 ^ 31 }
     requires limits { AreWithin classes.now }
     ensures checks { Checks (os_fault (the_symbols names.now) first before classes.now) result }
-    ensures program { OnOk result (map the_subroutine subroutines.new.items ≡ map the_subroutine subroutines.old.items ++ subroutines_meant (the_symbols names.now) true first before classes.now) }
-    ensures names { OnOk result (map the_name subroutines.new.items ≡ map the_name subroutines.old.items ++ names_meant classes.now) }
+    ensures program { OnOk result
+        (map the_subroutine subroutines.new.items ≡ map the_subroutine subroutines.old.items
+        ++ subroutines_meant (the_symbols names.now) true first before classes.now) }
+    ensures names { OnOk result (map the_name subroutines.new.items
+        ≡ map the_name subroutines.old.items ++ names_meant classes.now) }
 {
     let mut own = first;
     let mut statics = before;

@@ -96,7 +96,8 @@ fn push_object<'a>(
 ) -> Result<usize, AllocError>
     ensures few { IfOk result (λ n. n ≤ 1) }
     ensures count { IfOk result (λ n. n ≡ length (object_meant (the_scope scope.now) object.now)) }
-    ensures parts { OnOk result (AddsAll (object_meant (the_scope scope.now) object.now) parts.old.items parts.new.items) }
+    ensures parts { OnOk result
+        (AddsAll (object_meant (the_scope scope.now) object.now) parts.old.items parts.new.items) }
 {
     let part = match object {
         None => Part::This,
@@ -111,7 +112,8 @@ fn push_object<'a>(
 
 // A string is filled byte by byte.
 fn push_bytes(parts: &mut Vec<Part>, append: u32, text: &[u8]) -> Result<(), AllocError>
-    ensures { OnOk result (Turns (λ e. filled_characters append e text.now) parts.old.items parts.new.items) }
+    ensures { OnOk result
+        (Turns (λ e. filled_characters append e text.now) parts.old.items parts.new.items) }
 {
     for byte in text {
         push_value(parts, Part::Literal(*byte as u16))?;
@@ -133,7 +135,8 @@ fn length_word(text: &[u8]) -> u16
 }
 
 fn push_string(parts: &mut Vec<Part>, scope: &Scope, text: &[u8]) -> Result<(), AllocError>
-    ensures { OnOk result (Adds (string_meant (the_scope scope.now) text.now) parts.old.items parts.new.items) }
+    ensures { OnOk result
+        (Adds (string_meant (the_scope scope.now) text.now) parts.old.items parts.new.items) }
 {
     let class = b"String".as_slice();
     let new = made_number(scope, class, b"new".as_slice());
@@ -154,7 +157,8 @@ fn push_constant(
     scope: &Scope,
     constant: &Constant,
 ) -> Result<(), AllocError>
-    ensures { OnOk result (Adds (constant_meant (the_scope scope.now) constant.now) parts.old.items parts.new.items) }
+    ensures { OnOk result
+        (Adds (constant_meant (the_scope scope.now) constant.now) parts.old.items parts.new.items) }
 {
     match constant {
         Constant::Integer(n) => push_value(parts, Part::Literal(*n)),
@@ -178,7 +182,8 @@ fn sign_meant(sign: Sign) -> CoreSign
 
 fn operator_part(scope: &Scope, operator: Operator) -> Part
     ensures takes { takes result ≡ 2 }
-    ensures made { (a b : AnExpression) → make_expression result (a ∷ b ∷ []) ≡ binary_meant (the_scope scope.now) operator a b }
+    ensures made { (a b : AnExpression)
+        → make_expression result (a ∷ b ∷ []) ≡ binary_meant (the_scope scope.now) operator a b }
 {
     match operator {
         Operator::Plus => Part::Binary(CoreOperator::Plus),
@@ -201,7 +206,8 @@ fn operator_part(scope: &Scope, operator: Operator) -> Part
 
 // An operator after the two values that it stands between.
 fn push_operator(parts: &mut Vec<Part>, scope: &Scope, operator: Operator) -> Result<(), AllocError>
-    ensures { OnOk result (Joins (binary_meant (the_scope scope.now) operator) parts.old.items parts.new.items) }
+    ensures { OnOk result
+        (Joins (binary_meant (the_scope scope.now) operator) parts.old.items parts.new.items) }
 {
     push_part(parts, operator_part(scope, operator))
 }
@@ -212,7 +218,8 @@ fn push_term<'a>(
     scope: &Scope<'a, '_>,
     term: &'a Term,
 ) -> Result<(), AllocError>
-    ensures { OnOk result (Adds (term_meant (the_scope scope.now) term.now) parts.old.items parts.new.items) }
+    ensures { OnOk result
+        (Adds (term_meant (the_scope scope.now) term.now) parts.old.items parts.new.items) }
 {
     match term {
         Term::Constant(constant) => push_constant(parts, scope, constant),
@@ -248,7 +255,8 @@ fn push_call<'a>(
     scope: &Scope<'a, '_>,
     call: &'a Call,
 ) -> Result<(), AllocError>
-    ensures { OnOk result (Adds (call_meant (the_scope scope.now) call.now) parts.old.items parts.new.items) }
+    ensures { OnOk result
+        (Adds (call_meant (the_scope scope.now) call.now) parts.old.items parts.new.items) }
 {
     let objects = push_object(parts, scope, &call.object)?;
     push_arguments(parts, scope, &call.arguments)?;
@@ -267,7 +275,8 @@ fn push_arguments<'a>(
     scope: &Scope<'a, '_>,
     arguments: &'a [Expression],
 ) -> Result<(), AllocError>
-    ensures { OnOk result (AddsAll (map (exp_meant (the_scope scope.now)) arguments.now) parts.old.items parts.new.items) }
+    ensures { OnOk result (AddsAll (map (exp_meant (the_scope scope.now)) arguments.now)
+        parts.old.items parts.new.items) }
 {
     for e in arguments {
         push_expression(parts, scope, e)?;
@@ -281,7 +290,8 @@ fn push_expression<'a>(
     scope: &Scope<'a, '_>,
     e: &'a Expression,
 ) -> Result<(), AllocError>
-    ensures { OnOk result (Adds (exp_meant (the_scope scope.now) e.now) parts.old.items parts.new.items) }
+    ensures { OnOk result
+        (Adds (exp_meant (the_scope scope.now) e.now) parts.old.items parts.new.items) }
 {
     push_term(parts, scope, &e.first)?;
     push_operations(parts, scope, &e.rest)
@@ -294,7 +304,8 @@ fn push_operations<'a>(
     scope: &Scope<'a, '_>,
     operations: &'a [Operation],
 ) -> Result<(), AllocError>
-    ensures { OnOk result (Turns (λ e. grouped_operations (the_scope scope.now) e operations.now) parts.old.items parts.new.items) }
+    ensures { OnOk result (Turns (λ e. grouped_operations (the_scope scope.now) e operations.now)
+        parts.old.items parts.new.items) }
 {
     for operation in operations {
         push_operation(parts, scope, operation)?;
@@ -308,7 +319,8 @@ fn push_operation<'a>(
     scope: &Scope<'a, '_>,
     operation: &'a Operation,
 ) -> Result<(), AllocError>
-    ensures { OnOk result (Turns (λ e. operation_meant (the_scope scope.now) e operation.now) parts.old.items parts.new.items) }
+    ensures { OnOk result (Turns (λ e. operation_meant (the_scope scope.now) e operation.now)
+        parts.old.items parts.new.items) }
 {
     push_term(parts, scope, &operation.term)?;
     push_operator(parts, scope, operation.operator)

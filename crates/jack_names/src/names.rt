@@ -19,7 +19,8 @@ fn enter_classes<'a>(
     classes: &'a [Class],
 ) -> Result<(), AllocError>
     requires { first + length classes.now ≤ 2 ^ 31 }
-    ensures { OnOk result (table_of table.new ≡ with_all (table_of table.old) (class_numbers first classes.now)) }
+    ensures { OnOk result
+        (table_of table.new ≡ with_all (table_of table.old) (class_numbers first classes.now)) }
 {
     let mut number = first;
     let mut rest = classes;
@@ -65,7 +66,8 @@ fn push_signatures<'a>(
 ) -> Result<u32, AllocError>
     requires { first + subroutine_count classes.now ≤ 2 ^ 31 }
     ensures next { IfOk result (λ n. n ≡ first + subroutine_count classes.now) }
-    ensures tables { OnOk result (map table_of tables.new.items ≡ map table_of tables.old.items ++ map (with_all []) (all_signatures first classes.now)) }
+    ensures tables { OnOk result (map table_of tables.new.items
+        ≡ map table_of tables.old.items ++ map (with_all []) (all_signatures first classes.now)) }
 {
     let mut number = first;
     let mut rest = classes;

@@ -95,7 +95,8 @@ fn all_statics(classes: &[Class]) -> u32
 
 // How many of these numbers are left after the statics of classes, where they are enough.
 fn left_behind(numbers: usize, classes: &[Class]) -> Option<usize>
-    ensures { SomeIff result (all_statics classes.now ≤ numbers) (numbers - all_statics classes.now) }
+    ensures { SomeIff result (all_statics classes.now ≤ numbers)
+        (numbers - all_statics classes.now) }
 {
     let mut left = numbers;
     let mut rest = classes;
@@ -128,8 +129,11 @@ fn resolve_all<'a>(
     requires own { AreWithin own.now }
     requires os { AreWithin os.now }
     ensures checks { Checks (all_uses_fault (the_symbols names.now) own.now os.now) result }
-    ensures program { OnOk result (map the_subroutine subroutines.new.items ≡ map the_subroutine subroutines.old.items ++ all_subroutines_meant (the_symbols names.now) own.now os.now) }
-    ensures names { OnOk result (map the_name subroutines.new.items ≡ map the_name subroutines.old.items ++ (names_meant own.now ++ names_meant os.now)) }
+    ensures program { OnOk result
+        (map the_subroutine subroutines.new.items ≡ map the_subroutine subroutines.old.items
+        ++ all_subroutines_meant (the_symbols names.now) own.now os.now) }
+    ensures names { OnOk result (map the_name subroutines.new.items
+        ≡ map the_name subroutines.old.items ++ (names_meant own.now ++ names_meant os.now)) }
 {
     resolve_classes(alloc, names, false, 0, 0, own, subroutines)?;
     resolve_system(
@@ -175,8 +179,10 @@ fn class_meant(class: &Class) -> Result<CoreClass, AllocError>
 fn push_classes(classes: &mut Vec<CoreClass>, trees: &[Class]) -> Result<(), AllocError>
     requires limits { AreWithin trees.now }
     requires statics { all_statics trees.now ≤ 2 ^ 31 }
-    ensures means { OnOk result (map the_class classes.new.items ≡ map the_class classes.old.items ++ map class_meant trees.now) }
-    ensures names { OnOk result (map the_class_name classes.new.items ≡ map the_class_name classes.old.items ++ class_names trees.now) }
+    ensures means { OnOk result (map the_class classes.new.items
+        ≡ map the_class classes.old.items ++ map class_meant trees.now) }
+    ensures names { OnOk result (map the_class_name classes.new.items
+        ≡ map the_class_name classes.old.items ++ class_names trees.now) }
 {
     let mut rest = trees;
     while let Some((class, others)) = rest.split_first() {
@@ -191,8 +197,10 @@ fn all_classes(alloc: Global, own: &[Class], os: &[Class]) -> Result<Vec<CoreCla
     requires statics { all_statics own.now + all_statics os.now < 2 ^ 31 }
     requires own { AreWithin own.now }
     requires os { AreWithin os.now }
-    ensures means { IfOk result (λ r. map the_class r.items ≡ map class_meant own.now ++ map class_meant os.now) }
-    ensures names { IfOk result (λ r. map the_class_name r.items ≡ class_names own.now ++ class_names os.now) }
+    ensures means { IfOk result
+        (λ r. map the_class r.items ≡ map class_meant own.now ++ map class_meant os.now) }
+    ensures names { IfOk result
+        (λ r. map the_class_name r.items ≡ class_names own.now ++ class_names os.now) }
 {
     let mut classes = Vec::new(alloc);
     push_classes(&mut classes, own)?;
@@ -212,10 +220,12 @@ fn resolve_named<'a>(
     requires statics { all_statics own.now + all_statics os.now < 2 ^ 31 }
     requires own { AreWithin own.now }
     requires os { AreWithin os.now }
-    ensures checks { Resolves (first_of (main_fault (symbols_of (own.now ++ os.now))) (all_uses_fault (symbols_of (own.now ++ os.now)) own.now os.now)) result }
+    ensures checks { Resolves (first_of (main_fault (symbols_of (own.now ++ os.now)))
+        (all_uses_fault (symbols_of (own.now ++ os.now)) own.now os.now)) result }
     ensures program { IfOk result (λ core. the_program core ≡ program_meant own.now os.now) }
     ensures names { IfOk result (λ core. names_of core ≡ all_names_meant own.now os.now) }
-    ensures classes { IfOk result (λ core. class_names_of core ≡ class_names own.now ++ class_names os.now) }
+    ensures classes { IfOk result
+        (λ core. class_names_of core ≡ class_names own.now ++ class_names os.now) }
 {
     check_main(alloc, names)?;
     let mut subroutines = started(alloc)?;
@@ -237,7 +247,8 @@ fn resolve_numbered<'a>(alloc: Global, own: &'a [Class], os: &'a [Class]) -> Res
     ensures checks { Resolves (first_name_fault own.now os.now) result }
     ensures program { IfOk result (λ core. the_program core ≡ program_meant own.now os.now) }
     ensures names { IfOk result (λ core. names_of core ≡ all_names_meant own.now os.now) }
-    ensures classes { IfOk result (λ core. class_names_of core ≡ class_names own.now ++ class_names os.now) }
+    ensures classes { IfOk result
+        (λ core. class_names_of core ≡ class_names own.now ++ class_names os.now) }
 {
     check_declared(alloc, own, os)?;
     let names = names_of(alloc, own, os)?;
@@ -253,11 +264,13 @@ pub fn resolve<'a>(alloc: Global, own: &'a [Class], os: &'a [Class]) -> Result<C
     requires own { AreWithin own.now }
     requires os { AreWithin os.now }
     ensures checks { Resolves (first_name_fault own.now os.now) result }
-    ensures meaning { IfOk result (λ core. the_program core ≡ program_meaning (map the_file own.now) (map the_file os.now)) }
+    ensures meaning { IfOk result
+        (λ core. the_program core ≡ program_meaning (map the_file own.now) (map the_file os.now)) }
     ensures tells { Tells (map the_file own.now) (map the_file os.now) result }
     ensures program { IfOk result (λ core. the_program core ≡ program_meant own.now os.now) }
     ensures names { IfOk result (λ core. names_of core ≡ all_names_meant own.now os.now) }
-    ensures classes { IfOk result (λ core. class_names_of core ≡ class_names own.now ++ class_names os.now) }
+    ensures classes { IfOk result
+        (λ core. class_names_of core ≡ class_names own.now ++ class_names os.now) }
 {
     check_statics(own, os)?;
     resolve_numbered(alloc, own, os)

@@ -23,7 +23,8 @@ fn begun(
     form: Form,
     fields: u16,
 ) -> Result<Vec<CoreStatement>, AllocError>
-    ensures { IfOk result (λ r. map the_statement r.items ≡ first_statements (the_scope scope.now) form fields) }
+    ensures { IfOk result
+        (λ r. map the_statement r.items ≡ first_statements (the_scope scope.now) form fields) }
 {
     match form {
         Form::Constructor => {
@@ -62,7 +63,8 @@ fn body_meant<'a>(
     s: &'a Subroutine,
 ) -> Result<Vec<CoreStatement>, AllocError>
     requires { 1 + sizes s.now.statements.items ≤ 2 ^ 31 }
-    ensures { IfOk result (λ r. map the_statement r.items ≡ body_meant (the_scope scope.now) fields s.now) }
+    ensures { IfOk result
+        (λ r. map the_statement r.items ≡ body_meant (the_scope scope.now) fields s.now) }
 {
     let mut body = begun(alloc, scope, s.form, fields)?;
     let (mut texts, number) = statements_meant(alloc, scope, 1, &s.statements)?;
@@ -128,7 +130,8 @@ pub(crate) fn subroutine_meant<'a>(
     requires few { 1 + sizes s.now.statements.items ≤ 2 ^ 31 }
     requires parameters { length s.now.parameters.items ≤ 16384 }
     requires locals { locals_of s.now.locals.items ≤ 16384 }
-    ensures means { IfOk result (λ r. the_subroutine r ≡ subroutine_meant (the_scope scope.now) owner.entry.fields s.now) }
+    ensures means { IfOk result
+        (λ r. the_subroutine r ≡ subroutine_meant (the_scope scope.now) owner.entry.fields s.now) }
     ensures name { IfOk result (λ r. the_name r ≡ subroutine_name owner.entry.name.now s.now) }
 {
     Ok(CoreSubroutine {

@@ -22,8 +22,10 @@ fn check_new<'a>(
     seen: &mut Table<'a, ()>,
     name: &'a Name,
 ) -> Result<(), NameError>
-    ensures checks { Checks (twice_fault (the_file file.entry) kind (names_in (table_of seen.old)) name.now) result }
-    ensures seen { OnOk result (names_in (table_of seen.new) ≡ names_in (table_of seen.old) ++ name.now.text ∷ []) }
+    ensures checks { Checks
+        (twice_fault (the_file file.entry) kind (names_in (table_of seen.old)) name.now) result }
+    ensures seen { OnOk result
+        (names_in (table_of seen.new) ≡ names_in (table_of seen.old) ++ name.now.text ∷ []) }
 {
     let text = name.text.as_bytes();
     if seen.enter(text, ())? {
@@ -40,8 +42,10 @@ fn check_list<'a>(
     seen: &mut Table<'a, ()>,
     names: &'a [Name],
 ) -> Result<(), NameError>
-    ensures checks { Checks (first_twice (the_file file.entry) kind (names_in (table_of seen.old)) names.now) result }
-    ensures seen { OnOk result (names_in (table_of seen.new) ≡ names_in (table_of seen.old) ++ texts_of names.now) }
+    ensures checks { Checks
+        (first_twice (the_file file.entry) kind (names_in (table_of seen.old)) names.now) result }
+    ensures seen { OnOk result
+        (names_in (table_of seen.new) ≡ names_in (table_of seen.old) ++ texts_of names.now) }
 {
     let mut rest = names;
     while let Some((name, others)) = rest.split_first() {
@@ -58,8 +62,11 @@ fn check_names<'a>(
     seen: &mut Table<'a, ()>,
     names: &'a Names,
 ) -> Result<(), NameError>
-    ensures checks { Checks (first_twice (the_file file.entry) kind (names_in (table_of seen.old)) (names_of names.now)) result }
-    ensures seen { OnOk result (names_in (table_of seen.new) ≡ names_in (table_of seen.old) ++ texts_of (names_of names.now)) }
+    ensures checks { Checks
+        (first_twice (the_file file.entry) kind (names_in (table_of seen.old)) (names_of names.now))
+        result }
+    ensures seen { OnOk result (names_in (table_of seen.new)
+        ≡ names_in (table_of seen.old) ++ texts_of (names_of names.now)) }
 {
     check_new(alloc, file, kind, seen, &names.first)?;
     check_list(alloc, file, kind, seen, &names.more)
@@ -71,7 +78,8 @@ fn check_lines<'a>(
     seen: &mut Table<'a, ()>,
     variables: &'a [ClassVariables],
 ) -> Result<(), NameError>
-    ensures { Checks (members_twice (the_file file.entry) (names_in (table_of seen.old)) variables.now) result }
+    ensures { Checks
+        (members_twice (the_file file.entry) (names_in (table_of seen.old)) variables.now) result }
 {
     let mut rest = variables;
     while let Some((line, others)) = rest.split_first() {
@@ -87,8 +95,10 @@ fn check_parameters<'a>(
     seen: &mut Table<'a, ()>,
     parameters: &'a [Parameter],
 ) -> Result<(), NameError>
-    ensures checks { Checks (first_twice (the_file file.entry) VariableTwice (names_in (table_of seen.old)) (parameter_names parameters.now)) result }
-    ensures seen { OnOk result (names_in (table_of seen.new) ≡ names_in (table_of seen.old) ++ texts_of (parameter_names parameters.now)) }
+    ensures checks { Checks (first_twice (the_file file.entry) VariableTwice
+        (names_in (table_of seen.old)) (parameter_names parameters.now)) result }
+    ensures seen { OnOk result (names_in (table_of seen.new)
+        ≡ names_in (table_of seen.old) ++ texts_of (parameter_names parameters.now)) }
 {
     let mut rest = parameters;
     while let Some((parameter, others)) = rest.split_first() {
@@ -104,7 +114,8 @@ fn check_locals<'a>(
     seen: &mut Table<'a, ()>,
     locals: &'a [Locals],
 ) -> Result<(), NameError>
-    ensures { Checks (locals_twice (the_file file.entry) (names_in (table_of seen.old)) locals.now) result }
+    ensures { Checks
+        (locals_twice (the_file file.entry) (names_in (table_of seen.old)) locals.now) result }
 {
     let mut rest = locals;
     while let Some((line, others)) = rest.split_first() {
@@ -128,7 +139,9 @@ fn check_subroutines<'a>(
     seen: &mut Table<'a, ()>,
     subroutines: &'a [Subroutine],
 ) -> Result<(), NameError>
-    ensures { Checks (subroutines_fault (the_file file.entry) (names_in (table_of seen.old)) subroutines.now) result }
+    ensures { Checks
+        (subroutines_fault (the_file file.entry) (names_in (table_of seen.old)) subroutines.now)
+        result }
 {
     let mut rest = subroutines;
     while let Some((s, others)) = rest.split_first() {
@@ -167,8 +180,10 @@ fn check_declaration<'a>(
     seen: &mut Table<'a, ()>,
     class: &'a Class,
 ) -> Result<(), NameError>
-    ensures checks { Checks (declaration_fault shipped (names_in (table_of seen.old)) class.now) result }
-    ensures seen { OnOk result (names_in (table_of seen.new) ≡ names_in (table_of seen.old) ++ class.now.name.text ∷ []) }
+    ensures checks { Checks
+        (declaration_fault shipped (names_in (table_of seen.old)) class.now) result }
+    ensures seen { OnOk result
+        (names_in (table_of seen.new) ≡ names_in (table_of seen.old) ++ class.now.name.text ∷ []) }
 {
     let file = File {
         shipped,
@@ -188,7 +203,8 @@ pub(crate) fn check_declarations<'a>(
     mut seen: Table<'a, ()>,
     classes: &'a [Class],
 ) -> Result<(), NameError>
-    ensures { Checks (declarations_fault shipped (names_in (table_of seen.entry)) classes.now) result }
+    ensures { Checks
+        (declarations_fault shipped (names_in (table_of seen.entry)) classes.now) result }
 {
     let mut rest = classes;
     while let Some((class, others)) = rest.split_first() {

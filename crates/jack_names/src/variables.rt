@@ -59,7 +59,8 @@ fn enter_list<'a>(
     names: &'a [Name],
 ) -> Result<(), AllocError>
     requires { first + length names.now < most sort }
-    ensures { OnOk result (table_of table.new ≡ with_all (table_of table.old) (line_entries (slot_at sort) class first names.now)) }
+    ensures { OnOk result (table_of table.new
+        ≡ with_all (table_of table.old) (line_entries (slot_at sort) class first names.now)) }
 {
     let mut k = first;
     let mut rest = names;
@@ -80,7 +81,8 @@ fn enter_names<'a>(
     names: &'a NameList,
 ) -> Result<(), AllocError>
     requires { first + length (names_of names.now) < most sort }
-    ensures { OnOk result (table_of table.new ≡ with_all (table_of table.old) (line_entries (slot_at sort) class first (names_of names.now))) }
+    ensures { OnOk result (table_of table.new ≡ with_all (table_of table.old)
+        (line_entries (slot_at sort) class first (names_of names.now))) }
 {
     let slot = slot_at(sort, first);
     table.enter(names.first.text.as_bytes(), Declared { slot, class })?;
@@ -96,7 +98,8 @@ fn enter_line<'a>(
 ) -> Result<(), AllocError>
     requires fields { fields + fields_in line.now.scope line.now ≤ 16384 }
     requires statics { statics + statics_in line.now.scope line.now ≤ 2 ^ 31 }
-    ensures { OnOk result (table_of table.new ≡ with_all (table_of table.old) (member_line (the_symbols names.now) fields statics line.now line.now.scope)) }
+    ensures { OnOk result (table_of table.new ≡ with_all (table_of table.old)
+        (member_line (the_symbols names.now) fields statics line.now line.now.scope)) }
 {
     let class = type_class(names, &line.kind);
     match line.scope {
@@ -155,7 +158,8 @@ pub(crate) fn statics_of(variables: &[ClassVariables]) -> u32
 
 // How many of these numbers are left after the statics of a line, where they are enough.
 fn left_by_line(numbers: usize, line: &ClassVariables) -> Option<usize>
-    ensures { SomeIff result (statics_in line.now.scope line.now ≤ numbers) (numbers - statics_in line.now.scope line.now) }
+    ensures { SomeIff result (statics_in line.now.scope line.now ≤ numbers)
+        (numbers - statics_in line.now.scope line.now) }
 {
     match line.scope {
         Scope::Field => Some(numbers),
@@ -165,7 +169,8 @@ fn left_by_line(numbers: usize, line: &ClassVariables) -> Option<usize>
 
 /// How many of these numbers are left after the statics of a class, where they are enough.
 pub(crate) fn left_by(numbers: usize, variables: &[ClassVariables]) -> Option<usize>
-    ensures { SomeIff result (statics_of variables.now ≤ numbers) (numbers - statics_of variables.now) }
+    ensures { SomeIff result (statics_of variables.now ≤ numbers)
+        (numbers - statics_of variables.now) }
 {
     let mut left = numbers;
     let mut rest = variables;
@@ -185,7 +190,8 @@ fn enter_members<'a>(
 ) -> Result<(), AllocError>
     requires fields { fields_of variables.now ≤ 16384 }
     requires statics { first + statics_of variables.now ≤ 2 ^ 31 }
-    ensures { OnOk result (table_of table.new ≡ with_all (table_of table.old) (member_entries (the_symbols names.now) 0 first variables.now)) }
+    ensures { OnOk result (table_of table.new ≡ with_all (table_of table.old)
+        (member_entries (the_symbols names.now) 0 first variables.now)) }
 {
     let mut fields = 0;
     let mut statics = first;
@@ -208,7 +214,8 @@ pub(crate) fn members_of<'a>(
 ) -> Result<Table<'a, Declared>, AllocError>
     requires fields { fields_of variables.now ≤ 16384 }
     requires statics { statics + statics_of variables.now ≤ 2 ^ 31 }
-    ensures { IfOk result (λ t. Finds t (member_entries (the_symbols names.now) 0 statics variables.now)) }
+    ensures { IfOk result
+        (λ t. Finds t (member_entries (the_symbols names.now) 0 statics variables.now)) }
 {
     let mut table = Table::new(alloc);
     enter_members(names, &mut table, statics, variables)?;
@@ -222,7 +229,8 @@ fn enter_parameters<'a>(
     parameters: &'a [Parameter],
 ) -> Result<(), AllocError>
     requires { first + length parameters.now ≤ 2 ^ 31 }
-    ensures { OnOk result (table_of table.new ≡ with_all (table_of table.old) (parameter_entries (the_symbols names.now) first parameters.now)) }
+    ensures { OnOk result (table_of table.new ≡ with_all (table_of table.old)
+        (parameter_entries (the_symbols names.now) first parameters.now)) }
 {
     let mut k = first;
     let mut rest = parameters;
@@ -245,7 +253,8 @@ fn enter_locals<'a>(
     locals: &'a [Locals],
 ) -> Result<(), AllocError>
     requires { first + locals_of locals.now ≤ 2 ^ 31 }
-    ensures { OnOk result (table_of table.new ≡ with_all (table_of table.old) (local_entries (the_symbols names.now) first locals.now)) }
+    ensures { OnOk result (table_of table.new
+        ≡ with_all (table_of table.old) (local_entries (the_symbols names.now) first locals.now)) }
 {
     let mut k = first;
     let mut rest = locals;

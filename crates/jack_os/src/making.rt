@@ -101,7 +101,8 @@ fn expression(alloc: Global, sketch: &ExpressionSketch) -> Result<Expression, Al
 // A call through a name.
 fn call_through(object: Name, name: Name, arguments: Vec<Expression>) -> Call
     ensures front { call_said result ≡ name_said object }
-    ensures behind { invoked_tree result ≡ invoked_by (Some object) name (args_tree arguments.items) }
+    ensures behind { invoked_tree result
+        ≡ invoked_by (Some object) name (args_tree arguments.items) }
 {
     Call {
         object: Some(object),
@@ -117,7 +118,8 @@ fn do_call(
     text: &str,
     argument: &ExpressionSketch,
 ) -> Result<Statement, AllocError>
-    ensures { IfOk result (λ s. statement_tree s ≡ made.do_call class.now text.now (sketched.expression argument.now)) }
+    ensures { IfOk result (λ s. statement_tree s
+        ≡ made.do_call class.now text.now (sketched.expression argument.now)) }
 {
     let front = name(alloc, class)?;
     let called = name(alloc, text)?;
@@ -149,7 +151,8 @@ fn let_element(
     value: &ExpressionSketch,
 ) -> Result<Statement, AllocError>
     ensures { IfOk result (λ s. statement_tree s
-        ≡ made.let_element text.now (sketched.expression index.now) (sketched.expression value.now)) }
+        ≡ made.let_element text.now (sketched.expression index.now)
+        (sketched.expression value.now)) }
 {
     let name = name(alloc, text)?;
     let index = expression(alloc, index)?;
@@ -159,7 +162,8 @@ fn let_element(
 
 // `return value;`
 fn return_value(alloc: Global, value: &ExpressionSketch) -> Result<Statement, AllocError>
-    ensures { IfOk result (λ s. statement_tree s ≡ made.return_value (sketched.expression value.now)) }
+    ensures { IfOk result
+        (λ s. statement_tree s ≡ made.return_value (sketched.expression value.now)) }
 {
     let value = expression(alloc, value)?;
     Ok(Statement::Return(NOWHERE, Some(value)))

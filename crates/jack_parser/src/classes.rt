@@ -32,7 +32,8 @@ fn names<'a>(
     counts: Counts,
     counted: Counted,
 ) -> Result<((Names, Counts), &'a [Token<'a>]), ReadError>
-    ensures reads { ParsesBy view (jack end) (names_rule counted) (λ x. names_tree x.0) (λ x. x.1) counts tokens.now result }
+    ensures reads { ParsesBy view (jack end) (names_rule counted) (λ x. names_tree x.0)
+        (λ x. x.1) counts tokens.now result }
     ensures shorter { IfOk result (λ r. length r.1.now < length tokens.now) }
 {
     let ((first, after_one), after_first) = counted_name(alloc, tokens, end, counts, counted)?;
@@ -60,7 +61,8 @@ fn declaration<'a>(
     word: Keyword,
     counted: Counted,
 ) -> Result<((Type, Names, Counts), &'a [Token<'a>]), ReadError>
-    ensures reads { ParsesBy view (jack end) (declaration word counted) (λ x. declared_tree x.0 x.1) (λ x. x.2) counts tokens.now result }
+    ensures reads { ParsesBy view (jack end) (declaration word counted) (λ x. declared_tree x.0 x.1)
+        (λ x. x.2) counts tokens.now result }
     ensures shorter { IfOk result (λ r. length r.1.now < length tokens.now) }
 {
     let rest = keyword(tokens, end, counts, word)?;
@@ -77,7 +79,8 @@ fn variables<'a>(
     end: Place,
     counts: Counts,
 ) -> Result<((ClassVariables, Counts), &'a [Token<'a>]), ReadError>
-    ensures reads { ParsesBy view (jack end) class_variables (λ x. variables_tree x.0) (λ x. x.1) counts tokens.now result }
+    ensures reads { ParsesBy view (jack end) class_variables (λ x. variables_tree x.0)
+        (λ x. x.1) counts tokens.now result }
     ensures shorter { IfOk result (λ r. length r.1.now < length tokens.now) }
 {
     if keyword_stands(tokens, Keyword::Static) {
@@ -122,7 +125,8 @@ fn all_variables<'a>(
     end: Place,
     counts: Counts,
 ) -> Result<((Vec<ClassVariables>, Counts), &'a [Token<'a>]), ReadError>
-    ensures reads { ParsesBy view (jack end) (repeat class_variables) (λ x. tree_of_list variables_tree x.0.items NoMore) (λ x. x.1) counts tokens.now result }
+    ensures reads { ParsesBy view (jack end) (repeat class_variables)
+        (λ x. tree_of_list variables_tree x.0.items NoMore) (λ x. x.1) counts tokens.now result }
     ensures no_longer { IfOk result (λ r. length r.1.now ≤ length tokens.now) }
 {
     let mut all = Vec::new(alloc);
@@ -150,7 +154,8 @@ fn locals<'a>(
     end: Place,
     counts: Counts,
 ) -> Result<((Locals, Counts), &'a [Token<'a>]), ReadError>
-    ensures reads { ParsesBy view (jack end) locals_rule (λ x. locals_tree x.0) (λ x. x.1) counts tokens.now result }
+    ensures reads { ParsesBy view (jack end) locals_rule (λ x. locals_tree x.0)
+        (λ x. x.1) counts tokens.now result }
     ensures shorter { IfOk result (λ r. length r.1.now < length tokens.now) }
 {
     let ((kind, names, so_far), rest) = declaration(
@@ -171,7 +176,8 @@ fn all_locals<'a>(
     end: Place,
     counts: Counts,
 ) -> Result<((Vec<Locals>, Counts), &'a [Token<'a>]), ReadError>
-    ensures reads { ParsesBy view (jack end) (repeat locals_rule) (λ x. tree_of_list locals_tree x.0.items NoMore) (λ x. x.1) counts tokens.now result }
+    ensures reads { ParsesBy view (jack end) (repeat locals_rule)
+        (λ x. tree_of_list locals_tree x.0.items NoMore) (λ x. x.1) counts tokens.now result }
     ensures no_longer { IfOk result (λ r. length r.1.now ≤ length tokens.now) }
 {
     let mut all = Vec::new(alloc);
@@ -199,7 +205,8 @@ fn parameter<'a>(
     end: Place,
     counts: Counts,
 ) -> Result<((Parameter, Counts), &'a [Token<'a>]), ReadError>
-    ensures reads { ParsesBy view (jack end) parameter (λ x. parameter_tree x.0) (λ x. x.1) counts tokens.now result }
+    ensures reads { ParsesBy view (jack end) parameter (λ x. parameter_tree x.0)
+        (λ x. x.1) counts tokens.now result }
     ensures shorter { IfOk result (λ r. length r.1.now < length tokens.now) }
 {
     let (kind, rest) = type_name(alloc, tokens, end, counts)?;
@@ -215,7 +222,8 @@ fn parameter_list<'a>(
     end: Place,
     counts: Counts,
 ) -> Result<((Vec<Parameter>, Counts), &'a [Token<'a>]), ReadError>
-    ensures reads { ParsesBy view (jack end) parameter_list (λ x. parameters_with x.0.items NoMore) (λ x. x.1) counts tokens.now result }
+    ensures reads { ParsesBy view (jack end) parameter_list (λ x. parameters_with x.0.items NoMore)
+        (λ x. x.1) counts tokens.now result }
     ensures shorter { IfOk result (λ r. length r.1.now < length tokens.now) }
     ensures some { IfOk result (λ r. 1 ≤ length r.0.0.items) }
 {
@@ -242,7 +250,8 @@ fn parameters<'a>(
     end: Place,
     counts: Counts,
 ) -> Result<((Vec<Parameter>, Counts), &'a [Token<'a>]), ReadError>
-    ensures reads { ParsesBy view (jack end) parameters (λ x. parameters_tree x.0.items) (λ x. x.1) counts tokens.now result }
+    ensures reads { ParsesBy view (jack end) parameters (λ x. parameters_tree x.0.items)
+        (λ x. x.1) counts tokens.now result }
     ensures no_longer { IfOk result (λ r. length r.1.now ≤ length tokens.now) }
 {
     if !type_begins(tokens) {
@@ -266,7 +275,8 @@ fn body<'a>(
     ),
     ReadError,
 >
-    ensures reads { ParsesBy view (jack end) subroutine_body (λ x. subroutine_body_tree x.0.items x.1.items x.2) (λ x. x.3) counts tokens.now result }
+    ensures reads { ParsesBy view (jack end) subroutine_body
+        (λ x. subroutine_body_tree x.0.items x.1.items x.2) (λ x. x.3) counts tokens.now result }
     ensures shorter { IfOk result (λ r. length r.1.now < length tokens.now) }
 {
     let rest = symbol(tokens, end, counts, b'{')?;
@@ -284,7 +294,8 @@ fn parts<'a>(
     end: Place,
     counts: Counts,
 ) -> Result<((Subroutine, Counts), &'a [Token<'a>]), ReadError>
-    ensures reads { ParsesBy view (jack end) subroutine_parts (λ x. parts_tree x.0) (λ x. x.1) counts tokens.now result }
+    ensures reads { ParsesBy view (jack end) subroutine_parts (λ x. parts_tree x.0)
+        (λ x. x.1) counts tokens.now result }
     ensures shorter { IfOk result (λ r. length r.1.now < length tokens.now) }
 {
     let (form, rest) = form(tokens, end, counts)?;
@@ -314,7 +325,8 @@ fn subroutine<'a>(
     end: Place,
     counts: Counts,
 ) -> Result<(Subroutine, &'a [Token<'a>]), ReadError>
-    ensures reads { ParsesBy view (jack end) subroutine subroutine_tree (λ _. counts) counts tokens.now result }
+    ensures reads { ParsesBy view (jack end) subroutine subroutine_tree
+        (λ _. counts) counts tokens.now result }
     ensures shorter { IfOk result (λ r. length r.1.now < length tokens.now) }
 {
     if !form_begins(tokens) {
@@ -331,7 +343,8 @@ fn subroutines<'a>(
     end: Place,
     counts: Counts,
 ) -> Result<(Vec<Subroutine>, &'a [Token<'a>]), ReadError>
-    ensures reads { ParsesBy view (jack end) (repeat subroutine) (λ v. tree_of_list subroutine_tree v.items NoMore) (λ _. counts) counts tokens.now result }
+    ensures reads { ParsesBy view (jack end) (repeat subroutine)
+        (λ v. tree_of_list subroutine_tree v.items NoMore) (λ _. counts) counts tokens.now result }
     ensures no_longer { IfOk result (λ r. length r.1.now ≤ length tokens.now) }
 {
     let mut all = Vec::new(alloc);
@@ -359,7 +372,8 @@ pub fn class<'a>(
     end: Place,
     counts: Counts,
 ) -> Result<((Class, Counts), &'a [Token<'a>]), ReadError>
-    ensures reads { ParsesBy view (jack end) class_rule (λ x. class_tree x.0) (λ x. x.1) counts tokens.now result }
+    ensures reads { ParsesBy view (jack end) class_rule (λ x. class_tree x.0)
+        (λ x. x.1) counts tokens.now result }
     ensures file { IfOk result (λ r. r.0.0.file ≡ file) }
 {
     let rest = keyword(tokens, end, counts, Keyword::Class)?;

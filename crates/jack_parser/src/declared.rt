@@ -22,7 +22,8 @@ pub fn type_name<'a>(
     end: Place,
     counts: Counts,
 ) -> Result<(Type, &'a [Token<'a>]), ReadError>
-    ensures reads { ParsesBy view (jack end) type_rule (λ x. Leaf (type_leaf_said x)) (λ _. counts) counts tokens.now result }
+    ensures reads { ParsesBy view (jack end) type_rule (λ x. Leaf (type_leaf_said x))
+        (λ _. counts) counts tokens.now result }
     ensures shorter { IfOk result (λ r. length r.1.now < length tokens.now) }
 {
     let Some((token, rest)) = tokens.split_first() else {
@@ -43,7 +44,8 @@ pub fn result_type<'a>(
     end: Place,
     counts: Counts,
 ) -> Result<(Option<Type>, &'a [Token<'a>]), ReadError>
-    ensures reads { ParsesBy view (jack end) result_rule (λ x. Leaf (result_said x)) (λ _. counts) counts tokens.now result }
+    ensures reads { ParsesBy view (jack end) result_rule (λ x. Leaf (result_said x))
+        (λ _. counts) counts tokens.now result }
     ensures shorter { IfOk result (λ r. length r.1.now < length tokens.now) }
 {
     let Some((token, rest)) = tokens.split_first() else {
@@ -64,7 +66,8 @@ pub fn form<'a>(
     end: Place,
     counts: Counts,
 ) -> Result<(Form, &'a [Token<'a>]), ReadError>
-    ensures reads { ParsesBy view (jack end) form_rule (λ x. Leaf (form_said x)) (λ _. counts) counts tokens.now result }
+    ensures reads { ParsesBy view (jack end) form_rule (λ x. Leaf (form_said x))
+        (λ _. counts) counts tokens.now result }
     ensures shorter { IfOk result (λ r. length r.1.now < length tokens.now) }
 {
     let Some((token, rest)) = tokens.split_first() else {

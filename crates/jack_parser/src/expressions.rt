@@ -26,7 +26,8 @@ pub fn expression<'a>(
     end: Place,
     counts: Counts,
 ) -> Result<(Expression, &'a [Token<'a>]), ReadError>
-    ensures reads { ParsesBy view (jack end) (name expression) exp_tree (λ _. counts) counts tokens.now result }
+    ensures reads { ParsesBy view (jack end) (name expression) exp_tree
+        (λ _. counts) counts tokens.now result }
     ensures shorter { IfOk result (λ r. length r.1.now < length tokens.now) }
 {
     let (first, after_first) = term(alloc, tokens, end, counts)?;
@@ -58,7 +59,8 @@ fn term<'a>(
     end: Place,
     counts: Counts,
 ) -> Result<(Term, &'a [Token<'a>]), ReadError>
-    ensures reads { ParsesBy view (jack end) (name term) term_tree (λ _. counts) counts tokens.now result }
+    ensures reads { ParsesBy view (jack end) (name term) term_tree
+        (λ _. counts) counts tokens.now result }
     ensures shorter { IfOk result (λ r. length r.1.now < length tokens.now) }
 {
     match start_at(tokens) {
@@ -85,7 +87,8 @@ fn variable<'a>(
     counts: Counts,
 ) -> Result<(Term, &'a [Token<'a>]), ReadError>
     requires begun { start_of (map view tokens.now) ≡ Start.Name }
-    ensures reads { ParsesBy view (jack end) (name term) term_tree (λ _. counts) counts tokens.now result }
+    ensures reads { ParsesBy view (jack end) (name term) term_tree
+        (λ _. counts) counts tokens.now result }
     ensures shorter { IfOk result (λ r. length r.1.now < length tokens.now) }
 {
     let (name, rest) = identifier(alloc, tokens, end, counts)?;
@@ -112,7 +115,8 @@ pub fn call_of<'a>(
     end: Place,
     counts: Counts,
 ) -> Result<(Call, &'a [Token<'a>]), ReadError>
-    ensures reads { ParsesBy view (jack end) invocation_rule invoked_tree (λ _. counts) counts tokens.now result }
+    ensures reads { ParsesBy view (jack end) invocation_rule invoked_tree
+        (λ _. counts) counts tokens.now result }
     ensures shorter { IfOk result (λ r. length r.1.now < length tokens.now) }
     ensures front { IfOk result (λ r. call_said r.0 ≡ name_said first) }
 {
@@ -148,7 +152,8 @@ fn called<'a>(
     end: Place,
     counts: Counts,
 ) -> Result<(Vec<Expression>, &'a [Token<'a>]), ReadError>
-    ensures reads { ParsesBy view (jack end) call (λ v. called_tree v.items) (λ _. counts) counts tokens.now result }
+    ensures reads { ParsesBy view (jack end) call (λ v. called_tree v.items)
+        (λ _. counts) counts tokens.now result }
     ensures shorter { IfOk result (λ r. length r.1.now < length tokens.now) }
 {
     let rest = symbol(tokens, end, counts, b'(')?;
@@ -166,7 +171,8 @@ fn arguments<'a>(
     end: Place,
     counts: Counts,
 ) -> Result<(Vec<Expression>, &'a [Token<'a>]), ReadError>
-    ensures reads { ParsesBy view (jack end) arguments (λ v. args_tree v.items) (λ _. counts) counts tokens.now result }
+    ensures reads { ParsesBy view (jack end) arguments (λ v. args_tree v.items)
+        (λ _. counts) counts tokens.now result }
     ensures no_longer { IfOk result (λ r. length r.1.now ≤ length tokens.now) }
 {
     let mut arguments = Vec::new(alloc);
@@ -198,7 +204,8 @@ fn argument<'a>(
     end: Place,
     counts: Counts,
 ) -> Result<((Expression, Counts), &'a [Token<'a>]), ReadError>
-    ensures reads { ParsesBy view (jack end) argument (λ x. argument_tree x.0) (λ x. x.1) counts tokens.now result }
+    ensures reads { ParsesBy view (jack end) argument (λ x. argument_tree x.0)
+        (λ x. x.1) counts tokens.now result }
     ensures shorter { IfOk result (λ r. length r.1.now < length tokens.now) }
 {
     if !term_begins(tokens) {
@@ -218,7 +225,8 @@ pub fn grouped<'a>(
     end: Place,
     counts: Counts,
 ) -> Result<(Expression, &'a [Token<'a>]), ReadError>
-    ensures reads { ParsesBy view (jack end) group group_tree (λ _. counts) counts tokens.now result }
+    ensures reads { ParsesBy view (jack end) group group_tree
+        (λ _. counts) counts tokens.now result }
     ensures shorter { IfOk result (λ r. length r.1.now < length tokens.now) }
 {
     let rest = symbol(tokens, end, counts, b'(')?;
@@ -236,7 +244,8 @@ fn negation<'a>(
     counts: Counts,
 ) -> Result<(Term, &'a [Token<'a>]), ReadError>
     requires begun { start_of (map view tokens.now) ≡ Start.Negation }
-    ensures reads { ParsesBy view (jack end) (name term) term_tree (λ _. counts) counts tokens.now result }
+    ensures reads { ParsesBy view (jack end) (name term) term_tree
+        (λ _. counts) counts tokens.now result }
     ensures shorter { IfOk result (λ r. length r.1.now < length tokens.now) }
 {
     let (sign, rest) = unary(tokens, end, counts)?;
@@ -257,7 +266,8 @@ pub fn nested<'a>(
     end: Place,
     counts: Counts,
 ) -> Result<(Expression, &'a [Token<'a>]), ReadError>
-    ensures reads { ParsesBy view (jack end) (nested_rule (name expression)) (λ e. Node (exp_tree e)) (λ _. counts) counts tokens.now result }
+    ensures reads { ParsesBy view (jack end) (nested_rule (name expression))
+        (λ e. Node (exp_tree e)) (λ _. counts) counts tokens.now result }
     ensures shorter { IfOk result (λ r. length r.1.now < length tokens.now) }
 {
     if !term_begins(tokens) {

@@ -45,7 +45,8 @@ fn put_name<S: Sink>(name: &Name, status: Put, out: &mut Pieces<'_, S>) -> Put
 }
 
 fn put_constant<S: Sink>(constant: &Constant, status: Put, out: &mut Pieces<'_, S>) -> Put
-    ensures { Writes (set_off (said_text (constant_leaf_said constant.now))) status out.old result out.new }
+    ensures { Writes (set_off (said_text (constant_leaf_said constant.now))) status out.old
+        result out.new }
 {
     match constant {
         Constant::Integer(number) => {
@@ -98,7 +99,8 @@ fn put_expression<S: Sink>(value: &Expression, status: Put, out: &mut Pieces<'_,
 // Operators with the terms that follow them.
 #[cycle(printing)]
 fn put_operations<S: Sink>(operations: &[Operation], status: Put, out: &mut Pieces<'_, S>) -> Put
-    ensures { Shows (operations_tree operations.now) (repeat operation) status out.old result out.new }
+    ensures { Shows (operations_tree operations.now)
+        (repeat operation) status out.old result out.new }
 {
     let mut status = status;
     for one in operations {
@@ -213,7 +215,8 @@ fn put_index<S: Sink>(index: &Option<Box<Expression>>, status: Put, out: &mut Pi
 
 // The value that is returned, where one is written.
 fn put_value<S: Sink>(value: &Option<Expression>, status: Put, out: &mut Pieces<'_, S>) -> Put
-    ensures { Shows (value_tree value.now) (option (name expression)) status out.old result out.new }
+    ensures { Shows (value_tree value.now)
+        (option (name expression)) status out.old result out.new }
 {
     match value {
         None => status,
@@ -273,7 +276,8 @@ fn put_statement<S: Sink>(one: &Statement, status: Put, out: &mut Pieces<'_, S>)
 
 #[cycle(printing_statements)]
 fn put_statements<S: Sink>(statements: &[Statement], status: Put, out: &mut Pieces<'_, S>) -> Put
-    ensures { Shows (statements_tree statements.now) (repeat (name statement)) status out.old result out.new }
+    ensures { Shows (statements_tree statements.now)
+        (repeat (name statement)) status out.old result out.new }
 {
     let mut status = status;
     for one in statements {
@@ -314,14 +318,16 @@ fn put_form<S: Sink>(form: Form, status: Put, out: &mut Pieces<'_, S>) -> Put
 
 // , name
 fn put_next_name<S: Sink>(name: &Name, status: Put, out: &mut Pieces<'_, S>) -> Put
-    ensures { (x : Counted) → Shows (next_name_tree name.now) (next_name x) status out.old result out.new }
+    ensures { (x : Counted)
+        → Shows (next_name_tree name.now) (next_name x) status out.old result out.new }
 {
     let separated = put_symbol(b',', status, out);
     put_name(name, separated, out)
 }
 
 fn put_more_names<S: Sink>(names: &[Name], status: Put, out: &mut Pieces<'_, S>) -> Put
-    ensures { (x : Counted) → Shows (tree_of_list next_name_tree names.now NoMore) (repeat (next_name x)) status out.old result out.new }
+    ensures { (x : Counted) → Shows (tree_of_list next_name_tree names.now NoMore)
+        (repeat (next_name x)) status out.old result out.new }
 {
     let mut status = status;
     for one in names {
@@ -331,7 +337,8 @@ fn put_more_names<S: Sink>(names: &[Name], status: Put, out: &mut Pieces<'_, S>)
 }
 
 fn put_names<S: Sink>(names: &Names, status: Put, out: &mut Pieces<'_, S>) -> Put
-    ensures { (x : Counted) → Shows (names_tree names.now) (names_rule x) status out.old result out.new }
+    ensures { (x : Counted)
+        → Shows (names_tree names.now) (names_rule x) status out.old result out.new }
 {
     let begun = put_name(&names.first, status, out);
     put_more_names(&names.more, begun, out)
@@ -345,7 +352,8 @@ fn put_declaration<S: Sink>(
     status: Put,
     out: &mut Pieces<'_, S>,
 ) -> Put
-    ensures { (x : Counted) → Shows (declared_tree kind.now names.now) (declaration word x) status out.old result out.new }
+    ensures { (x : Counted) → Shows (declared_tree kind.now names.now)
+        (declaration word x) status out.old result out.new }
 {
     let begun = put_keyword(word, status, out);
     let typed = put_type(kind, begun, out);
@@ -364,7 +372,8 @@ fn put_variables<S: Sink>(variables: &ClassVariables, status: Put, out: &mut Pie
 }
 
 fn put_all_variables<S: Sink>(all: &[ClassVariables], status: Put, out: &mut Pieces<'_, S>) -> Put
-    ensures { Shows (tree_of_list variables_tree all.now NoMore) (repeat class_variables) status out.old result out.new }
+    ensures { Shows (tree_of_list variables_tree all.now NoMore)
+        (repeat class_variables) status out.old result out.new }
 {
     let mut status = status;
     for one in all {
@@ -380,7 +389,8 @@ fn put_locals<S: Sink>(locals: &Locals, status: Put, out: &mut Pieces<'_, S>) ->
 }
 
 fn put_all_locals<S: Sink>(all: &[Locals], status: Put, out: &mut Pieces<'_, S>) -> Put
-    ensures { Shows (tree_of_list locals_tree all.now NoMore) (repeat locals_rule) status out.old result out.new }
+    ensures { Shows (tree_of_list locals_tree all.now NoMore)
+        (repeat locals_rule) status out.old result out.new }
 {
     let mut status = status;
     for one in all {
@@ -405,7 +415,8 @@ fn put_next_parameter<S: Sink>(one: &Parameter, status: Put, out: &mut Pieces<'_
 }
 
 fn put_more_parameters<S: Sink>(all: &[Parameter], status: Put, out: &mut Pieces<'_, S>) -> Put
-    ensures { Shows (tree_of_list next_parameter_tree all.now NoMore) (repeat next_parameter) status out.old result out.new }
+    ensures { Shows (tree_of_list next_parameter_tree all.now NoMore)
+        (repeat next_parameter) status out.old result out.new }
 {
     let mut status = status;
     for one in all {
@@ -440,7 +451,8 @@ fn put_subroutine<S: Sink>(one: &Subroutine, status: Put, out: &mut Pieces<'_, S
 }
 
 fn put_subroutines<S: Sink>(all: &[Subroutine], status: Put, out: &mut Pieces<'_, S>) -> Put
-    ensures { Shows (tree_of_list subroutine_tree all.now NoMore) (repeat subroutine) status out.old result out.new }
+    ensures { Shows (tree_of_list subroutine_tree all.now NoMore)
+        (repeat subroutine) status out.old result out.new }
 {
     let mut status = status;
     for one in all {
@@ -464,7 +476,8 @@ fn put_class<S: Sink>(class: &Class, status: Put, out: &mut Pieces<'_, S>) -> Pu
 fn put_all<S: Sink>(class: &Class, out: &mut Pieces<'_, S>) -> Put
     requires { pending out.old ≡ [] }
     ensures same_sink { HaveSameSink out.old out.new }
-    ensures put { Puts (S.written (sink_of out.old)) (S.written (sink_of out.new)) (class_text class.now) result }
+    ensures put { Puts (S.written (sink_of out.old)) (S.written (sink_of out.new))
+        (class_text class.now) result }
     ensures counts { CountsPut (S.faults (sink_of out.old)) (S.faults (sink_of out.new)) result }
 {
     let status = put_class(class, Put::Done, out);

@@ -32,7 +32,8 @@ fn at_end(tokens: &[Token]) -> Result<(), ReadError>
 }
 
 fn finish(tokens: &[Token]) -> Result<(), ReadError>
-    ensures { (end : Place) (counts : Counts) → Ends (jack end) counts (map view tokens.now) result }
+    ensures { (end : Place) (counts : Counts)
+        → Ends (jack end) counts (map view tokens.now) result }
 {
     at_end(tokens)
 }
@@ -43,7 +44,8 @@ fn all(
     tokens: &[Token],
     end: Place,
 ) -> Result<(Class, Counts), ReadError>
-    ensures reads { ParsesAllBy view (jack end) whole (λ x. whole_tree x.0) (λ x. x.1) (fresh 0) tokens.now result }
+    ensures reads { ParsesAllBy view (jack end) whole (λ x. whole_tree x.0) (λ x. x.1)
+        (fresh 0) tokens.now result }
     ensures file { IfOk result (λ x. x.0.file ≡ file) }
 {
     let ((class, counts), rest) = class(alloc, file, tokens, end, fresh(0))?;

@@ -27,7 +27,8 @@ fn index<'a>(
     end: Place,
     counts: Counts,
 ) -> Result<(Option<Box<Expression>>, &'a [Token<'a>]), ReadError>
-    ensures reads { ParsesBy view (jack end) (option subscript) index_tree (λ _. counts) counts tokens.now result }
+    ensures reads { ParsesBy view (jack end) (option subscript) index_tree
+        (λ _. counts) counts tokens.now result }
     ensures no_longer { IfOk result (λ r. length r.1.now ≤ length tokens.now) }
 {
     if !stands(tokens, b'[') {
@@ -47,7 +48,8 @@ fn let_statement<'a>(
     counts: Counts,
 ) -> Result<(Statement, &'a [Token<'a>]), ReadError>
     requires begun { Lets (map view tokens.now) }
-    ensures reads { ParsesBy view (jack end) any_statement any_tree (λ _. counts) counts tokens.now result }
+    ensures reads { ParsesBy view (jack end) any_statement any_tree
+        (λ _. counts) counts tokens.now result }
     ensures shorter { IfOk result (λ r. length r.1.now < length tokens.now) }
 {
     let (place, rest) = key(tokens, end, counts, Keyword::Let)?;
@@ -67,7 +69,8 @@ fn do_statement<'a>(
     counts: Counts,
 ) -> Result<(Statement, &'a [Token<'a>]), ReadError>
     requires begun { Does (map view tokens.now) }
-    ensures reads { ParsesBy view (jack end) any_statement any_tree (λ _. counts) counts tokens.now result }
+    ensures reads { ParsesBy view (jack end) any_statement any_tree
+        (λ _. counts) counts tokens.now result }
     ensures shorter { IfOk result (λ r. length r.1.now < length tokens.now) }
 {
     let (place, rest) = key(tokens, end, counts, Keyword::Do)?;
@@ -86,7 +89,8 @@ fn value<'a>(
     end: Place,
     counts: Counts,
 ) -> Result<(Option<Expression>, &'a [Token<'a>]), ReadError>
-    ensures reads { ParsesBy view (jack end) (option (name expression)) value_tree (λ _. counts) counts tokens.now result }
+    ensures reads { ParsesBy view (jack end) (option (name expression)) value_tree
+        (λ _. counts) counts tokens.now result }
     ensures no_longer { IfOk result (λ r. length r.1.now ≤ length tokens.now) }
 {
     if !term_begins(tokens) {
@@ -104,7 +108,8 @@ fn return_statement<'a>(
     counts: Counts,
 ) -> Result<(Statement, &'a [Token<'a>]), ReadError>
     requires begun { Returns (map view tokens.now) }
-    ensures reads { ParsesBy view (jack end) any_statement any_tree (λ _. counts) counts tokens.now result }
+    ensures reads { ParsesBy view (jack end) any_statement any_tree
+        (λ _. counts) counts tokens.now result }
     ensures shorter { IfOk result (λ r. length r.1.now < length tokens.now) }
 {
     let (place, rest) = key(tokens, end, counts, Keyword::Return)?;
@@ -122,7 +127,8 @@ fn while_statement<'a>(
     counts: Counts,
 ) -> Result<(Statement, &'a [Token<'a>]), ReadError>
     requires begun { Whiles (map view tokens.now) }
-    ensures reads { ParsesBy view (jack end) any_statement any_tree (λ _. counts) counts tokens.now result }
+    ensures reads { ParsesBy view (jack end) any_statement any_tree
+        (λ _. counts) counts tokens.now result }
     ensures shorter { IfOk result (λ r. length r.1.now < length tokens.now) }
 {
     let (place, rest) = key(tokens, end, counts, Keyword::While)?;
@@ -140,7 +146,8 @@ fn if_statement<'a>(
     counts: Counts,
 ) -> Result<(Statement, &'a [Token<'a>]), ReadError>
     requires begun { Ifs (map view tokens.now) }
-    ensures reads { ParsesBy view (jack end) any_statement any_tree (λ _. counts) counts tokens.now result }
+    ensures reads { ParsesBy view (jack end) any_statement any_tree
+        (λ _. counts) counts tokens.now result }
     ensures shorter { IfOk result (λ r. length r.1.now < length tokens.now) }
 {
     let (place, rest) = key(tokens, end, counts, Keyword::If)?;
@@ -159,7 +166,8 @@ fn else_block<'a>(
     end: Place,
     counts: Counts,
 ) -> Result<(Option<Vec<Statement>>, &'a [Token<'a>]), ReadError>
-    ensures reads { ParsesBy view (jack end) (option else_rule) else_tree (λ _. counts) counts tokens.now result }
+    ensures reads { ParsesBy view (jack end) (option else_rule) else_tree
+        (λ _. counts) counts tokens.now result }
     ensures no_longer { IfOk result (λ r. length r.1.now ≤ length tokens.now) }
 {
     if !keyword_stands(tokens, Keyword::Else) {
@@ -179,7 +187,8 @@ fn block<'a>(
     end: Place,
     counts: Counts,
 ) -> Result<(Vec<Statement>, &'a [Token<'a>]), ReadError>
-    ensures reads { ParsesBy view (jack end) block (λ v. block_tree v.items) (λ _. counts) counts tokens.now result }
+    ensures reads { ParsesBy view (jack end) block (λ v. block_tree v.items)
+        (λ _. counts) counts tokens.now result }
     ensures shorter { IfOk result (λ r. length r.1.now < length tokens.now) }
 {
     let rest = symbol(tokens, end, counts, b'{')?;
@@ -196,7 +205,8 @@ pub fn statements<'a>(
     end: Place,
     counts: Counts,
 ) -> Result<(Vec<Statement>, &'a [Token<'a>]), ReadError>
-    ensures reads { ParsesBy view (jack end) (repeat (name statement)) (λ v. statements_tree v.items) (λ _. counts) counts tokens.now result }
+    ensures reads { ParsesBy view (jack end) (repeat (name statement))
+        (λ v. statements_tree v.items) (λ _. counts) counts tokens.now result }
     ensures no_longer { IfOk result (λ r. length r.1.now ≤ length tokens.now) }
 {
     let mut statements = Vec::new(alloc);
@@ -224,7 +234,8 @@ fn statement<'a>(
     end: Place,
     counts: Counts,
 ) -> Result<(Statement, &'a [Token<'a>]), ReadError>
-    ensures reads { ParsesBy view (jack end) (name statement) statement_tree (λ _. counts) counts tokens.now result }
+    ensures reads { ParsesBy view (jack end) (name statement) statement_tree
+        (λ _. counts) counts tokens.now result }
     ensures shorter { IfOk result (λ r. length r.1.now < length tokens.now) }
 {
     if !statement_begins(tokens) {
@@ -243,7 +254,8 @@ fn any_statement<'a>(
     end: Place,
     counts: Counts,
 ) -> Result<(Statement, &'a [Token<'a>]), ReadError>
-    ensures reads { ParsesBy view (jack end) any_statement any_tree (λ _. counts) counts tokens.now result }
+    ensures reads { ParsesBy view (jack end) any_statement any_tree
+        (λ _. counts) counts tokens.now result }
     ensures shorter { IfOk result (λ r. length r.1.now < length tokens.now) }
 {
     if keyword_stands(tokens, Keyword::Let) {

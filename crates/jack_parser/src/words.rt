@@ -52,7 +52,8 @@ pub fn symbol_at<'a>(
     counts: Counts,
     sign: u8,
 ) -> Result<(Place, &'a [Token<'a>]), ReadError>
-    ensures reads { ParsesBy view (jack end) (symbol_at sign) (λ at. Leaf (Placed (kind.Symbol sign) [] at)) (λ _. counts) counts tokens.now result }
+    ensures reads { ParsesBy view (jack end) (symbol_at sign)
+        (λ at. Leaf (Placed (kind.Symbol sign) [] at)) (λ _. counts) counts tokens.now result }
     ensures shorter { IfOk result (λ r. length r.1.now < length tokens.now) }
 {
     let Some((token, rest)) = tokens.split_first() else {
@@ -96,7 +97,9 @@ pub fn key<'a>(
     counts: Counts,
     keyword: Keyword,
 ) -> Result<(Place, &'a [Token<'a>]), ReadError>
-    ensures reads { ParsesBy view (jack end) (key keyword) (λ at. Leaf (Said.Placed (Kind.Keyword keyword) [] at)) (λ _. counts) counts tokens.now result }
+    ensures reads { ParsesBy view
+        (jack end) (key keyword) (λ at. Leaf (Said.Placed (Kind.Keyword keyword) [] at))
+        (λ _. counts) counts tokens.now result }
     ensures shorter { IfOk result (λ r. length r.1.now < length tokens.now) }
 {
     let Some((token, rest)) = tokens.split_first() else {
@@ -118,7 +121,8 @@ pub fn identifier<'a>(
     end: Place,
     counts: Counts,
 ) -> Result<(Name, &'a [Token<'a>]), ReadError>
-    ensures reads { ParsesBy view (jack end) identifier (λ x. Leaf (name_said x)) (λ _. counts) counts tokens.now result }
+    ensures reads { ParsesBy view (jack end) identifier (λ x. Leaf (name_said x))
+        (λ _. counts) counts tokens.now result }
     ensures shorter { IfOk result (λ r. length r.1.now < length tokens.now) }
 {
     let Some((token, rest)) = tokens.split_first() else {
@@ -138,7 +142,8 @@ pub fn counted_name<'a>(
     counts: Counts,
     counted: Counted,
 ) -> Result<((Name, Counts), &'a [Token<'a>]), ReadError>
-    ensures reads { ParsesBy view (jack end) (counted_name counted) (λ x. Leaf (name_said x.0)) (λ x. x.1) counts tokens.now result }
+    ensures reads { ParsesBy view (jack end) (counted_name counted) (λ x. Leaf (name_said x.0))
+        (λ x. x.1) counts tokens.now result }
     ensures shorter { IfOk result (λ r. length r.1.now < length tokens.now) }
 {
     let Some((token, rest)) = tokens.split_first() else {
@@ -188,7 +193,8 @@ pub fn operator<'a>(
     end: Place,
     counts: Counts,
 ) -> Result<((Operator, Place), &'a [Token<'a>]), ReadError>
-    ensures reads { ParsesBy view (jack end) operator (λ x. Leaf (operator_said x.0 x.1)) (λ _. counts) counts tokens.now result }
+    ensures reads { ParsesBy view (jack end) operator (λ x. Leaf (operator_said x.0 x.1))
+        (λ _. counts) counts tokens.now result }
     ensures shorter { IfOk result (λ r. length r.1.now < length tokens.now) }
 {
     let Some((token, rest)) = tokens.split_first() else {
@@ -208,7 +214,8 @@ pub fn unary<'a>(
     end: Place,
     counts: Counts,
 ) -> Result<(Sign, &'a [Token<'a>]), ReadError>
-    ensures reads { ParsesBy view (jack end) unary (λ x. Leaf (sign_said x)) (λ _. counts) counts tokens.now result }
+    ensures reads { ParsesBy view (jack end) unary (λ x. Leaf (sign_said x))
+        (λ _. counts) counts tokens.now result }
     ensures shorter { IfOk result (λ r. length r.1.now < length tokens.now) }
 {
     let Some((token, rest)) = tokens.split_first() else {
@@ -252,7 +259,8 @@ pub fn constant<'a>(
     end: Place,
     counts: Counts,
 ) -> Result<(Constant, &'a [Token<'a>]), ReadError>
-    ensures reads { ParsesBy view (jack end) constant (λ x. Leaf (constant_leaf_said x)) (λ _. counts) counts tokens.now result }
+    ensures reads { ParsesBy view (jack end) constant (λ x. Leaf (constant_leaf_said x))
+        (λ _. counts) counts tokens.now result }
     ensures shorter { IfOk result (λ r. length r.1.now < length tokens.now) }
 {
     let Some((token, rest)) = tokens.split_first() else {

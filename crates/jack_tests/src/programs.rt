@@ -24,8 +24,8 @@ pub(super) enum Written<'a> {
     Return(u32, &'a [Part]),
 }
 
-/// The function Main.main: its number of locals, its first statements, its loops after them, and the number of its last statement,
-/// which is `return;`. A method Main.get of two arguments returns a value.
+/// The function Main.main: its number of locals, its first statements, its loops after them, and the number of its last
+/// statement, which is `return;`. A method Main.get of two arguments returns a value.
 #[derive(Clone, Copy)]
 pub(super) struct Main<'a> {
     pub(super) locals: u32,
@@ -81,7 +81,8 @@ fn add_part(all: &mut Vec<Part>, values: usize, part: Part) -> Result<usize, Fai
     Ok(values - taken + 1)
 }
 
-// The expression of these parts, in the order in which they become values, where each part finds its own and one value is left.
+// The expression of these parts, in the order in which they become values, where each part finds its own and one value
+// is left.
 fn expression(alloc: Global, parts: &[Part]) -> Result<Expression, Fail>
     ensures { IfOk result (λ e. OfFour (calls (the_expression e))) }
 {

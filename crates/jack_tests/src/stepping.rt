@@ -23,8 +23,8 @@ impl Keyboard for Counting {
     }
 }
 
-// How a drive of this many moves ends, and then: the moves so far, the control point and the steps where they are looked at, and
-// words at their addresses.
+// How a drive of this many moves ends, and then: the moves so far, the control point and the steps where they are
+// looked at, and words at their addresses.
 #[derive(Clone, Copy)]
 struct Look<'a> {
     bound: u32,

@@ -29,7 +29,8 @@ fn grammar_fault(place: Place) -> ReadError
 
 // A moment, not below the least one: one below it is past a limit of 0 (`KeyFault::of_grammar`).
 fn moment_at(tokens: &[Token], end: Place, least: u32) -> Result<(u32, &[Token]), ReadError>
-    ensures reads { Gives (λ x. (Kind.Number x.0, x.0 + 1, x.1.now)) result (word_at (script end) has_number check_moment said_kind least tokens.now) }
+    ensures reads { Gives (λ x. (Kind.Number x.0, x.0 + 1, x.1.now)) result
+        (word_at (script end) has_number check_moment said_kind least tokens.now) }
     ensures rising { IfOk result (λ x. least ≤ x.0) }
 {
     let Some((token, rest)) = tokens.split_first() else {
@@ -49,7 +50,8 @@ fn moment_at(tokens: &[Token], end: Place, least: u32) -> Result<(u32, &[Token])
 
 // A code.
 fn code_at(tokens: &[Token], end: Place) -> Result<(u16, &[Token]), ReadError>
-    ensures { (least : ℕ) → Gives (λ x. (Kind.Number x.0, least, x.1.now)) result (word_at (script end) has_number check_code said_kind least tokens.now) }
+    ensures { (least : ℕ) → Gives (λ x. (Kind.Number x.0, least, x.1.now)) result
+        (word_at (script end) has_number check_code said_kind least tokens.now) }
 {
     let Some((token, rest)) = tokens.split_first() else {
         return Err(grammar_fault(end));
@@ -76,14 +78,16 @@ fn line_end_at(tokens: &[Token], end: Place) -> Result<&[Token], ReadError>
 }
 
 fn moment(tokens: &[Token], end: Place, least: u32) -> Result<(u32, &[Token]), ReadError>
-    ensures reads { Parses (script end) moment (λ m. Leaf (Kind.Number m)) (λ m. m + 1) least tokens.now result }
+    ensures reads { Parses (script end) moment (λ m. Leaf (Kind.Number m))
+        (λ m. m + 1) least tokens.now result }
     ensures rising { IfOk result (λ x. least ≤ x.0) }
 {
     moment_at(tokens, end, least)
 }
 
 fn code(tokens: &[Token], end: Place, least: u32) -> Result<(u16, &[Token]), ReadError>
-    ensures { Parses (script end) code (λ n. Leaf (Kind.Number n)) (λ _. least) least tokens.now result }
+    ensures { Parses (script end) code (λ n. Leaf (Kind.Number n))
+        (λ _. least) least tokens.now result }
 {
     code_at(tokens, end)
 }
@@ -107,7 +111,8 @@ fn line_at(tokens: &[Token], end: Place, least: u32) -> Result<(Line, &[Token]),
 
 #[tactic(auto, using(crate::proofs::Exits::key_exits))]
 fn lines(alloc: Global, tokens: &[Token], end: Place) -> Result<(Vec<Line>, &[Token]), ReadError>
-    ensures reads { Parses (script end) lines (λ v. lines_tree v.items) (λ v. after_lines 0 v.items) 0 tokens.now result }
+    ensures reads { Parses (script end) lines (λ v. lines_tree v.items)
+        (λ v. after_lines 0 v.items) 0 tokens.now result }
     ensures rising { IfOk result (λ x. are_rising 0 x.0.items ≡ true) }
 {
     let mut lines = Vec::new(alloc);
@@ -147,7 +152,8 @@ fn finish(tokens: &[Token], end: Place) -> Result<(), ReadError>
 }
 
 pub fn all_lines(alloc: Global, tokens: &[Token], end: Place) -> Result<Vec<Line>, ReadError>
-    ensures reads { ParsesAll (script end) whole (λ v. script_tree v.items) (λ v. after_lines 0 v.items) 0 tokens.now result }
+    ensures reads { ParsesAll (script end) whole (λ v. script_tree v.items)
+        (λ v. after_lines 0 v.items) 0 tokens.now result }
     ensures rising { IfOk result (λ v. are_rising 0 v.items ≡ true) }
 {
     let (lines, rest) = lines(alloc, tokens, end)?;

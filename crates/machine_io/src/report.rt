@@ -60,7 +60,8 @@ impl LevelName {
 // A line of a word, a space and what is said of it.
 fn put_said<S: Sink>(word: &[u8], text: &[u8], out: &mut Pieces<'_, S>) -> Put
     ensures same_sink { HaveSameSink out.old out.new }
-    ensures passes { Passes (S.written (sink_of out.old)) (pending out.old) (S.written (sink_of out.new)) (pending out.new) (said_line word.now text.now) result }
+    ensures passes { Passes (S.written (sink_of out.old)) (pending out.old)
+        (S.written (sink_of out.new)) (pending out.new) (said_line word.now text.now) result }
     ensures counts { CountsPut (S.faults (sink_of out.old)) (S.faults (sink_of out.new)) result }
 {
     out.put_all(&[word, b" ", text, b"\n"])
@@ -68,7 +69,8 @@ fn put_said<S: Sink>(word: &[u8], text: &[u8], out: &mut Pieces<'_, S>) -> Put
 
 fn put_number<S: Sink>(word: &[u8], n: u64, out: &mut Pieces<'_, S>) -> Put
     ensures same_sink { HaveSameSink out.old out.new }
-    ensures passes { Passes (S.written (sink_of out.old)) (pending out.old) (S.written (sink_of out.new)) (pending out.new) (said_line word.now (decimal n)) result }
+    ensures passes { Passes (S.written (sink_of out.old)) (pending out.old)
+        (S.written (sink_of out.new)) (pending out.new) (said_line word.now (decimal n)) result }
     ensures counts { CountsPut (S.faults (sink_of out.old)) (S.faults (sink_of out.new)) result }
 {
     let mut buffer = Buffer::new();
@@ -77,7 +79,9 @@ fn put_number<S: Sink>(word: &[u8], n: u64, out: &mut Pieces<'_, S>) -> Put
 
 fn put_level<S: Sink>(level: LevelName, out: &mut Pieces<'_, S>) -> Put
     ensures same_sink { HaveSameSink out.old out.new }
-    ensures passes { Passes (S.written (sink_of out.old)) (pending out.old) (S.written (sink_of out.new)) (pending out.new) (said_line (codes "level") (level_name level)) result }
+    ensures passes { Passes (S.written (sink_of out.old))
+        (pending out.old) (S.written (sink_of out.new)) (pending out.new)
+        (said_line (codes "level") (level_name level)) result }
     ensures counts { CountsPut (S.faults (sink_of out.old)) (S.faults (sink_of out.new)) result }
 {
     put_said(b"level", level.name().as_bytes(), out)
@@ -86,7 +90,8 @@ fn put_level<S: Sink>(level: LevelName, out: &mut Pieces<'_, S>) -> Put
 // The lines of the level and the counts.
 fn put_counts<S: Sink>(level: LevelName, moves: u64, steps: u64, out: &mut Pieces<'_, S>) -> Put
     ensures same_sink { HaveSameSink out.old out.new }
-    ensures passes { Passes (S.written (sink_of out.old)) (pending out.old) (S.written (sink_of out.new)) (pending out.new) (counts_text level moves steps) result }
+    ensures passes { Passes (S.written (sink_of out.old)) (pending out.old)
+        (S.written (sink_of out.new)) (pending out.new) (counts_text level moves steps) result }
     ensures counts { CountsPut (S.faults (sink_of out.old)) (S.faults (sink_of out.new)) result }
 {
     match put_level(level, out) {
@@ -103,7 +108,9 @@ fn put_counts<S: Sink>(level: LevelName, moves: u64, steps: u64, out: &mut Piece
 // The line of the control point.
 fn put_point<S: Sink>(subroutine: &str, statement: u32, out: &mut Pieces<'_, S>) -> Put
     ensures same_sink { HaveSameSink out.old out.new }
-    ensures passes { Passes (S.written (sink_of out.old)) (pending out.old) (S.written (sink_of out.new)) (pending out.new) (said_line (codes "point") (subroutine.now ++ 32 ∷ decimal statement)) result }
+    ensures passes { Passes (S.written (sink_of out.old))
+        (pending out.old) (S.written (sink_of out.new)) (pending out.new)
+        (said_line (codes "point") (subroutine.now ++ 32 ∷ decimal statement)) result }
     ensures counts { CountsPut (S.faults (sink_of out.old)) (S.faults (sink_of out.new)) result }
 {
     let mut buffer = Buffer::new();
@@ -114,7 +121,9 @@ fn put_point<S: Sink>(subroutine: &str, statement: u32, out: &mut Pieces<'_, S>)
 // The line of the end.
 fn put_end<S: Sink>(end: End, out: &mut Pieces<'_, S>) -> Put
     ensures same_sink { HaveSameSink out.old out.new }
-    ensures passes { Passes (S.written (sink_of out.old)) (pending out.old) (S.written (sink_of out.new)) (pending out.new) (said_line (codes "end") (end_text end)) result }
+    ensures passes { Passes (S.written (sink_of out.old))
+        (pending out.old) (S.written (sink_of out.new)) (pending out.new)
+        (said_line (codes "end") (end_text end)) result }
     ensures counts { CountsPut (S.faults (sink_of out.old)) (S.faults (sink_of out.new)) result }
 {
     match end {
@@ -132,7 +141,9 @@ fn put_end<S: Sink>(end: End, out: &mut Pieces<'_, S>) -> Put
 /// Puts the five lines that each report begins with.
 pub fn put_head<S: Sink>(head: &Head<'_>, out: &mut Pieces<'_, S>) -> Put
     ensures same_sink { HaveSameSink out.old out.new }
-    ensures passes { Passes (S.written (sink_of out.old)) (pending out.old) (S.written (sink_of out.new)) (pending out.new) (head_text head.now.level head.now.moves head.now.steps head.now.subroutine.now head.now.statement head.now.end) result }
+    ensures passes { Passes (S.written (sink_of out.old)) (pending out.old)
+        (S.written (sink_of out.new)) (pending out.new) (head_text head.now.level head.now.moves
+        head.now.steps head.now.subroutine.now head.now.statement head.now.end) result }
     ensures counts { CountsPut (S.faults (sink_of out.old)) (S.faults (sink_of out.new)) result }
 {
     match put_counts(head.level, head.moves, head.steps, out) {
@@ -150,7 +161,9 @@ pub fn put_head<S: Sink>(head: &Head<'_>, out: &mut Pieces<'_, S>) -> Put
 pub fn put_shown<W: Fn(u16) -> u16, S: Sink>(show: Show, word: &W, out: &mut Pieces<'_, S>) -> Put
     requires { IsCallable (W.pre word.now) heap (keyboard - 1) }
     ensures same_sink { HaveSameSink out.old out.new }
-    ensures passes { (words : ℕ → ℕ) → Gives (W.post word.now) heap (keyboard - 1) words → Passes (S.written (sink_of out.old)) (pending out.old) (S.written (sink_of out.new)) (pending out.new) (shown_text show words) result }
+    ensures passes { (words : ℕ → ℕ) → Gives (W.post word.now) heap (keyboard - 1) words
+        → Passes (S.written (sink_of out.old)) (pending out.old) (S.written (sink_of out.new))
+        (pending out.new) (shown_text show words) result }
     ensures counts { CountsPut (S.faults (sink_of out.old)) (S.faults (sink_of out.new)) result }
 {
     match show {
@@ -169,7 +182,10 @@ fn put_report<W: Fn(u16) -> u16, S: Sink>(
 ) -> Put
     requires { IsCallable (W.pre word.now) heap (keyboard - 1) }
     ensures same_sink { HaveSameSink out.old out.new }
-    ensures passes { (words : ℕ → ℕ) → Gives (W.post word.now) heap (keyboard - 1) words → Passes (S.written (sink_of out.old)) (pending out.old) (S.written (sink_of out.new)) (pending out.new) (report_text head.now.level head.now.moves head.now.steps head.now.subroutine.now head.now.statement head.now.end show words) result }
+    ensures passes { (words : ℕ → ℕ) → Gives (W.post word.now) heap (keyboard - 1) words
+        → Passes (S.written (sink_of out.old)) (pending out.old) (S.written (sink_of out.new))
+        (pending out.new) (report_text head.now.level head.now.moves head.now.steps
+        head.now.subroutine.now head.now.statement head.now.end show words) result }
     ensures counts { CountsPut (S.faults (sink_of out.old)) (S.faults (sink_of out.new)) result }
 {
     match put_head(head, out) {
@@ -188,7 +204,10 @@ fn put_all<W: Fn(u16) -> u16, S: Sink>(
     requires callable { IsCallable (W.pre word.now) heap (keyboard - 1) }
     requires empty { pending out.old ≡ [] }
     ensures same_sink { HaveSameSink out.old out.new }
-    ensures put { (words : ℕ → ℕ) → Gives (W.post word.now) heap (keyboard - 1) words → Puts (S.written (sink_of out.old)) (S.written (sink_of out.new)) (report_text head.now.level head.now.moves head.now.steps head.now.subroutine.now head.now.statement head.now.end show words) result }
+    ensures put { (words : ℕ → ℕ) → Gives (W.post word.now) heap (keyboard - 1) words
+        → Puts (S.written (sink_of out.old)) (S.written (sink_of out.new))
+        (report_text head.now.level head.now.moves head.now.steps head.now.subroutine.now
+        head.now.statement head.now.end show words) result }
     ensures counts { CountsPut (S.faults (sink_of out.old)) (S.faults (sink_of out.new)) result }
 {
     match put_report(head, show, word, out) {
@@ -205,7 +224,9 @@ pub fn show_report<W: Fn(u16) -> u16, S: Sink>(
     out: &mut S,
 ) -> Put
     requires { IsCallable (W.pre word) heap (keyboard - 1) }
-    ensures put { (words : ℕ → ℕ) → Gives (W.post word) heap (keyboard - 1) words → Puts (S.written out.old) (S.written out.new) (report_text head.now.level head.now.moves head.now.steps head.now.subroutine.now head.now.statement head.now.end show words) result }
+    ensures put { (words : ℕ → ℕ) → Gives (W.post word) heap (keyboard - 1) words
+        → Puts (S.written out.old) (S.written out.new) (report_text head.now.level head.now.moves
+        head.now.steps head.now.subroutine.now head.now.statement head.now.end show words) result }
     ensures counts { CountsPut (S.faults out.old) (S.faults out.new) result }
 {
     let mut pieces = Pieces::new(out);

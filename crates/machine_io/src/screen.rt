@@ -36,7 +36,9 @@ fn put_row<W: Fn(u16) -> u16, S: Sink>(word: &W, row: u16, out: &mut Pieces<'_, 
     requires callable { IsCallable (W.pre word.now) screen (keyboard - 1) }
     requires row { row < 256 }
     ensures same_sink { HaveSameSink out.old out.new }
-    ensures passes { (words : ℕ → ℕ) → Gives (W.post word.now) screen (keyboard - 1) words → Passes (S.written (sink_of out.old)) (pending out.old) (S.written (sink_of out.new)) (pending out.new) (row_text words row) result }
+    ensures passes { (words : ℕ → ℕ) → Gives (W.post word.now) screen (keyboard - 1) words
+        → Passes (S.written (sink_of out.old)) (pending out.old) (S.written (sink_of out.new))
+        (pending out.new) (row_text words row) result }
     ensures counts { CountsPut (S.faults (sink_of out.old)) (S.faults (sink_of out.new)) result }
 {
     let start = SCREEN + WORDS_OF_ROW * row;
@@ -53,7 +55,9 @@ fn put_row<W: Fn(u16) -> u16, S: Sink>(word: &W, row: u16, out: &mut Pieces<'_, 
 pub fn put_screen<W: Fn(u16) -> u16, S: Sink>(word: &W, out: &mut Pieces<'_, S>) -> Put
     requires { IsCallable (W.pre word.now) screen (keyboard - 1) }
     ensures same_sink { HaveSameSink out.old out.new }
-    ensures passes { (words : ℕ → ℕ) → Gives (W.post word.now) screen (keyboard - 1) words → Passes (S.written (sink_of out.old)) (pending out.old) (S.written (sink_of out.new)) (pending out.new) (screen_text words) result }
+    ensures passes { (words : ℕ → ℕ) → Gives (W.post word.now) screen (keyboard - 1) words
+        → Passes (S.written (sink_of out.old)) (pending out.old) (S.written (sink_of out.new))
+        (pending out.new) (screen_text words) result }
     ensures counts { CountsPut (S.faults (sink_of out.old)) (S.faults (sink_of out.new)) result }
 {
     for row in 0..ROWS {
@@ -70,7 +74,8 @@ fn put_all_screen<W: Fn(u16) -> u16, S: Sink>(word: &W, out: &mut Pieces<'_, S>)
     requires callable { IsCallable (W.pre word.now) screen (keyboard - 1) }
     requires empty { pending out.old ≡ [] }
     ensures same_sink { HaveSameSink out.old out.new }
-    ensures put { (words : ℕ → ℕ) → Gives (W.post word.now) screen (keyboard - 1) words → Puts (S.written (sink_of out.old)) (S.written (sink_of out.new)) (screen_text words) result }
+    ensures put { (words : ℕ → ℕ) → Gives (W.post word.now) screen (keyboard - 1) words → Puts
+        (S.written (sink_of out.old)) (S.written (sink_of out.new)) (screen_text words) result }
     ensures counts { CountsPut (S.faults (sink_of out.old)) (S.faults (sink_of out.new)) result }
 {
     match put_screen(word, out) {
@@ -82,7 +87,8 @@ fn put_all_screen<W: Fn(u16) -> u16, S: Sink>(word: &W, out: &mut Pieces<'_, S>)
 /// Puts the screen as 256 lines of 512 characters, `#` for a pixel that is 1 and `.` for 0.
 pub fn show_screen<W: Fn(u16) -> u16, S: Sink>(word: W, out: &mut S) -> Put
     requires { IsCallable (W.pre word) screen (keyboard - 1) }
-    ensures put { (words : ℕ → ℕ) → Gives (W.post word) screen (keyboard - 1) words → Puts (S.written out.old) (S.written out.new) (screen_text words) result }
+    ensures put { (words : ℕ → ℕ) → Gives (W.post word) screen (keyboard - 1) words
+        → Puts (S.written out.old) (S.written out.new) (screen_text words) result }
     ensures counts { CountsPut (S.faults out.old) (S.faults out.new) result }
 {
     let mut pieces = Pieces::new(out);

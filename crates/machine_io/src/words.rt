@@ -11,7 +11,8 @@ use outer_world::{Pieces, Put, Sink};
 // The line `address word` with the word's signed reading.
 fn put_line<S: Sink>(address: u16, word: u16, out: &mut Pieces<'_, S>) -> Put
     ensures same_sink { HaveSameSink out.old out.new }
-    ensures passes { Passes (S.written (sink_of out.old)) (pending out.old) (S.written (sink_of out.new)) (pending out.new) (word_line address word) result }
+    ensures passes { Passes (S.written (sink_of out.old)) (pending out.old)
+        (S.written (sink_of out.new)) (pending out.new) (word_line address word) result }
     ensures counts { CountsPut (S.faults (sink_of out.old)) (S.faults (sink_of out.new)) result }
 {
     let mut first = Buffer::new();
@@ -28,7 +29,8 @@ fn put_line<S: Sink>(address: u16, word: u16, out: &mut Pieces<'_, S>) -> Put
 // The same, but nothing for a word 0 where zeros are left out.
 fn put_shown_line<S: Sink>(address: u16, word: u16, zeros: bool, out: &mut Pieces<'_, S>) -> Put
     ensures same_sink { HaveSameSink out.old out.new }
-    ensures passes { Passes (S.written (sink_of out.old)) (pending out.old) (S.written (sink_of out.new)) (pending out.new) (shown_line zeros address word) result }
+    ensures passes { Passes (S.written (sink_of out.old)) (pending out.old)
+        (S.written (sink_of out.new)) (pending out.new) (shown_line zeros address word) result }
     ensures counts { CountsPut (S.faults (sink_of out.old)) (S.faults (sink_of out.new)) result }
 {
     if zeros || word != 0 {
@@ -49,7 +51,9 @@ pub fn put_words<W: Fn(u16) -> u16, S: Sink>(
 ) -> Put
     requires { IsCallable (W.pre word.now) from to }
     ensures same_sink { HaveSameSink out.old out.new }
-    ensures passes { (words : ℕ → ℕ) → Gives (W.post word.now) from to words → Passes (S.written (sink_of out.old)) (pending out.old) (S.written (sink_of out.new)) (pending out.new) (words_text words zeros from to) result }
+    ensures passes { (words : ℕ → ℕ) → Gives (W.post word.now) from to words
+        → Passes (S.written (sink_of out.old)) (pending out.old) (S.written (sink_of out.new))
+        (pending out.new) (words_text words zeros from to) result }
     ensures counts { CountsPut (S.faults (sink_of out.old)) (S.faults (sink_of out.new)) result }
 {
     let end = to as u32 + 1;
@@ -74,7 +78,9 @@ fn put_all_words<W: Fn(u16) -> u16, S: Sink>(
     requires callable { IsCallable (W.pre word.now) from to }
     requires empty { pending out.old ≡ [] }
     ensures same_sink { HaveSameSink out.old out.new }
-    ensures put { (words : ℕ → ℕ) → Gives (W.post word.now) from to words → Puts (S.written (sink_of out.old)) (S.written (sink_of out.new)) (words_text words zeros from to) result }
+    ensures put { (words : ℕ → ℕ) → Gives (W.post word.now) from to words
+        → Puts (S.written (sink_of out.old)) (S.written (sink_of out.new))
+        (words_text words zeros from to) result }
     ensures counts { CountsPut (S.faults (sink_of out.old)) (S.faults (sink_of out.new)) result }
 {
     match put_words(word, from, to, zeros, out) {
@@ -93,7 +99,8 @@ pub fn show_words<W: Fn(u16) -> u16, S: Sink>(
     out: &mut S,
 ) -> Put
     requires { IsCallable (W.pre word) from to }
-    ensures put { (words : ℕ → ℕ) → Gives (W.post word) from to words → Puts (S.written out.old) (S.written out.new) (words_text words zeros from to) result }
+    ensures put { (words : ℕ → ℕ) → Gives (W.post word) from to words
+        → Puts (S.written out.old) (S.written out.new) (words_text words zeros from to) result }
     ensures counts { CountsPut (S.faults out.old) (S.faults out.new) result }
 {
     let mut pieces = Pieces::new(out);

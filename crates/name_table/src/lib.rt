@@ -33,8 +33,10 @@ impl<'a, V: Copy + Drop> Table<'a, V> {
 
     /// Enters a name that is not there. Says whether it was not there. Where memory runs out, the table stays as it was.
     pub fn enter(&mut self, name: &'a [u8], value: V) -> Result<bool, AllocError>
-        ensures new { IfOk result (λ new. new ≡ not (is_some (find_value name.now (table_of self.old)))) }
-        ensures entered { OnOk result (table_of self.new ≡ with_new (table_of self.old) name.now value) }
+        ensures new { IfOk result
+            (λ new. new ≡ not (is_some (find_value name.now (table_of self.old)))) }
+        ensures entered { OnOk result
+            (table_of self.new ≡ with_new (table_of self.old) name.now value) }
         ensures unchanged { OnErr result (table_of self.new ≡ table_of self.old) }
     {
         match self.find(name) {

@@ -1,4 +1,5 @@
--- How many words the operating system has in an image at most: the budgets of two programs, and what it adds to any (book, chapter 12).
+-- How many words the operating system has in an image at most: the budgets of two programs, and what it adds to any
+-- (book, chapter 12).
 use Rattle.std.specs.Prelude.{◌≤◌, ◌<◌, ◌+◌, ℕ, List, ◌++◌, codes, length, map, sum_by}
 use Rattle.jack_meaning.specs.Linked.{IsLinked}
 use Rattle.jack_tree.specs.declared.tree.Class.{Class}
@@ -45,8 +46,8 @@ pub record EachLaw : Type 0 where
 abbrev pub own_words : List ClassFile → List ClassFile → ℕ
 own_words own os = sum_by subroutine_words (subroutines_meaning (own ++ os) 0 0 own)
 
--- For every folder whose names are right: besides its own subroutines its program has at most 17,498 words. They are 256 and those of the 60
--- subroutines of the system.
+-- For every folder whose names are right: besides its own subroutines its program has at most 17,498 words. They are
+-- 256 and those of the 60 subroutines of the system.
 abbrev pub EachFolderLaw : Type 0
 EachFolderLaw =
     (own os : List Class) → AreSpelled own → AreClassesOf system os → IsWellNamed (map the_file own) (map the_file os)

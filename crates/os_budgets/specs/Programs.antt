@@ -26,12 +26,13 @@ program_with c os = program_meaning (main_alone c) os
 abbrev pub files_with : Class → List ClassFile → List File
 files_with c os = program_files (program_with c os) (program_names (main_alone c) os) (class_names (main_alone c) ++ class_names os)
 
--- The static words of VM files: one more than the greatest index of a static that the kept functions of a file name, together for all files.
+-- The static words of VM files: one more than the greatest index of a static that the kept functions of a file name,
+-- together for all files.
 abbrev pub HasStatics : List File → ℕ → Type 0
 HasStatics files words = (kept : List Section) × AreKept false (sections false files) kept × (words ≡ words_before kept (length files))
 
--- A text of Main.jack and the operating system. Each spells one class or list of classes, and they are well named together. The budget of
--- their program is this number of words, and no other, and it has this number of static words.
+-- A text of Main.jack and the operating system. Each spells one class or list of classes, and they are well named
+-- together. The budget of their program is this number of words, and no other, and it has this number of static words.
 pub record HasWords (text : List ℕ) (words statics : ℕ) : Type 0 where
   pub class : Class
   pub spelled : SpellsClass text class

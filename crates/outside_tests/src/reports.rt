@@ -38,7 +38,8 @@ impl Level for Counter {
       word = λ a. r.last_key;
     } };
 
-    ghost reply = { λ r k. if nat_eq k 0 then Stray Values else (if nat_eq k 9 then Done else (if nat_lt r.moves r.room then Acted else Full 5)) };
+    ghost reply = { λ r k. if nat_eq k 0 then Stray Values
+        else (if nat_eq k 9 then Done else (if nat_lt r.moves r.room then Acted else Full 5)) };
 
     ghost sure = { true };
 
@@ -301,7 +302,8 @@ fn a_report_has_its_lines(rt: HostRuntime) -> Result<(), Fail> {
 
 // Any level can be shown.
 fn show_level<L: Level, S: Sink>(level: &L, out: &mut S) -> Put
-    ensures { Puts (S.written out.old) (S.written out.new) (words_text (L.reading level.now).word false 2048 16383) result }
+    ensures { Puts (S.written out.old) (S.written out.new)
+        (words_text (L.reading level.now).word false 2048 16383) result }
 {
     show_words(|a| level.word_at(a), 2048, 16383, false, out)
 }

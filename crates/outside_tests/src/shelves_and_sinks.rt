@@ -232,7 +232,8 @@ fn answers_in<S: Shelf>(
     Ok(answers)
 }
 
-// Entries of a folder, and the names that are listed of it. A name that is no text is left out, but where it ends like a source.
+// Entries of a folder, and the names that are listed of it. A name that is no text is left out, but where it ends like
+// a source.
 const ENTRIES: &[(&[u8], &str)] = &[
     (b"Main.jack\0Ball.jack\0", "Ball.jack Main.jack "),
     (

@@ -11,7 +11,8 @@ use Rattle.jack_parser.specs.Printed.{class_text}
 use Rattle.jack_parser.specs.PrintedClass.{CanAllSay, printed_class}
 use Rattle.print_laws.specs.Unplaced.{IsEqualButForPlaces}
 
--- A text can hold the class: it keeps the limits, its tokens are such as can stand in a text, and its printed form is no longer than a file may be.
+-- A text can hold the class: it keeps the limits, and its tokens are such as can stand in a text. Its printed form is
+-- no longer than a file may be.
 pub record IsPrintable (c : Class) : Type 0 where
   pub limits : KeepsLimits c
   pub tokens : CanAllSay (class_tokens c)

@@ -1,4 +1,5 @@
--- A class without its places: what it says, wherever its tokens stand. (Abstract syntax: `Syntax.antt` of jack_tree; book, chapter 10, figure 10.5.)
+-- A class without its places: what it says, wherever its tokens stand. (Abstract syntax: `Syntax.antt` of jack_tree;
+-- book, chapter 10, figure 10.5.)
 use Rattle.std.specs.Prelude.{◌≡◌, Option, Some, None, map}
 use Rattle.scan_text.specs.declared.Place.{Place}
 use Rattle.scan_text.specs.Text.{start}

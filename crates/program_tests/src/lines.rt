@@ -137,8 +137,8 @@ fn each_is_refused(
     Ok(())
 }
 
-/// A text with a long middle: this many times the same piece between two others, with its number and a further piece after it
-/// where there is one.
+/// A text with a long middle: this many times the same piece between two others, with its number and a further piece
+/// after it where there is one.
 #[derive(Clone, Copy)]
 struct Long<'a> {
     front: &'a str,
@@ -218,8 +218,8 @@ fn double_of(alloc: Global, below: u32) -> Result<(Name, Vec<u8>), AllocError> {
     file_of(alloc, &path, &text)
 }
 
-// The chips C0.hdl to C40.hdl in the folder t: C0 has these parts, each other one two of the one before, from the input `in` to the
-// output `out`.
+// The chips C0.hdl to C40.hdl in the folder t: C0 has these parts, each other one two of the one before, from the input
+// `in` to the output `out`.
 fn doubled(alloc: Global, parts: &str) -> Result<Vec<(Name, Vec<u8>)>, Fail> {
     let mut files = Vec::new(alloc);
     let text = format!(in alloc; "CHIP C0 {{ IN in; OUT out; PARTS: {parts} }}")?;

@@ -70,7 +70,8 @@ fn walk(place: Place, bytes: &[u8]) -> Place
 fn run_len<P: Fn(u8) -> bool>(bytes: &[u8], keep: P) -> usize
     requires { P.IsAlwaysCallable keep }
     ensures within { result ≤ length bytes.now }
-    ensures longest { (test : ℕ → Bool) → Computes (P.post keep) test → result ≡ length (front test bytes.now) }
+    ensures longest { (test : ℕ → Bool) → Computes (P.post keep) test
+        → result ≡ length (front test bytes.now) }
 {
     let mut n = 0;
     let mut rest = bytes;

@@ -56,9 +56,12 @@ impl<'a> Scan<'a> {
     /// Goes over the longest run of bytes that `keep` keeps, and hands out its slice of the source.
     pub fn take_while<P: Fn(u8) -> bool>(&mut self, keep: P) -> &'a [u8]
         requires { P.IsAlwaysCallable keep }
-        ensures text { (test : ℕ → Bool) → Computes (P.post keep) test → result.now ≡ front test (left_bytes self.old) }
-        ensures left { (test : ℕ → Bool) → Computes (P.post keep) test → left_bytes self.new ≡ rest_behind test (left_bytes self.old) }
-        ensures place { (test : ℕ → Bool) → Computes (P.post keep) test → place self.new ≡ walk (place self.old) (front test (left_bytes self.old)) }
+        ensures text { (test : ℕ → Bool) → Computes (P.post keep) test
+            → result.now ≡ front test (left_bytes self.old) }
+        ensures left { (test : ℕ → Bool) → Computes (P.post keep) test
+            → left_bytes self.new ≡ rest_behind test (left_bytes self.old) }
+        ensures place { (test : ℕ → Bool) → Computes (P.post keep) test
+            → place self.new ≡ walk (place self.old) (front test (left_bytes self.old)) }
     {
         let n = run_len(self.rest, keep);
         self.skip(n)
@@ -68,7 +71,8 @@ impl<'a> Scan<'a> {
     pub fn number(&mut self) -> Option<u32>
         ensures value { result ≡ number_of (left_bytes self.old) }
         ensures left { left_bytes self.new ≡ rest_behind is_digit (left_bytes self.old) }
-        ensures place { place self.new ≡ walk (place self.old) (front is_digit (left_bytes self.old)) }
+        ensures place { place self.new
+            ≡ walk (place self.old) (front is_digit (left_bytes self.old)) }
     {
         let digits = self.take_while(|b| b.is_ascii_digit());
         if digits.is_empty() {
@@ -81,8 +85,10 @@ impl<'a> Scan<'a> {
     /// Goes over a line end that begins here: a line feed, or a return and a line feed. Tells whether one did.
     pub fn line_end(&mut self) -> bool
         ensures found { result ≡ nat_lt 0 (line_end (left_bytes self.old)) }
-        ensures left { left_bytes self.new ≡ drop (line_end (left_bytes self.old)) (left_bytes self.old) }
-        ensures place { place self.new ≡ walk (place self.old) (take (line_end (left_bytes self.old)) (left_bytes self.old)) }
+        ensures left { left_bytes self.new
+            ≡ drop (line_end (left_bytes self.old)) (left_bytes self.old) }
+        ensures place { place self.new
+            ≡ walk (place self.old) (take (line_end (left_bytes self.old)) (left_bytes self.old)) }
     {
         let n = line_end_len(self.rest);
         self.skip(n);
@@ -92,7 +98,8 @@ impl<'a> Scan<'a> {
     /// The bytes before the next line end, or before the end of the text.
     pub fn line(&mut self) -> &'a [u8]
         ensures text { result.now ≡ line (left_bytes self.old) }
-        ensures left { left_bytes self.new ≡ drop (length (line (left_bytes self.old))) (left_bytes self.old) }
+        ensures left { left_bytes self.new
+            ≡ drop (length (line (left_bytes self.old))) (left_bytes self.old) }
         ensures place { place self.new ≡ walk (place self.old) (line (left_bytes self.old)) }
     {
         let n = line_len(self.rest);
@@ -102,7 +109,8 @@ impl<'a> Scan<'a> {
     /// Goes over blanks (space, tab, line feed, return) and comments, `//` to the line's end and `/*` to the next `*/`. A comment
     /// that is not closed is an error with the place where it begins, and the scan then stands there.
     pub fn skip_blank(&mut self) -> Result<(), Place>
-        ensures { StandsBehind (blanks 0 (place self.old) (left_bytes self.old)) result (place self.new) (left_bytes self.new) }
+        ensures { StandsBehind (blanks 0 (place self.old) (left_bytes self.old)) result
+            (place self.new) (left_bytes self.new) }
     {
         let mut next = blank_at(self.rest);
         while let Blank::Over(n) = next {

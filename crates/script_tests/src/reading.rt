@@ -1,5 +1,6 @@
 use grammar::ReadError;
 use scan_text::Place;
+use script_columns::Format;
 use script_parser::*;
 use std::alloc::Global;
 use std::test::*;
@@ -13,12 +14,17 @@ fn write_word(out: &mut String, alloc: Global, word: &Placed) -> Result<(), Fail
 
 fn write_item(out: &mut String, alloc: Global, item: &Item) -> Result<(), Fail> {
     write_word(out, alloc, &item.variable)?;
-    let format = match item.format {
+    let layout = item.layout;
+    let format = match layout.format {
         Format::Binary => "B",
         Format::Decimal => "D",
         Format::Text => "S",
     };
-    write!(out, "%{format}{}.{}.{}", item.left, item.shown, item.right)?;
+    write!(
+        out,
+        "%{format}{}.{}.{}",
+        layout.left, layout.shown, layout.right
+    )?;
     Ok(())
 }
 

@@ -1,4 +1,5 @@
-//! What holds of generated programs: their texts spell classes, which are well named and mean programs. No code, only laws.
+//! What holds of generated programs: their texts spell classes, which are well named and mean programs. No code, only
+//! laws.
 #![tactic(auto)]
 
 ghost use Rattle.soak_laws.specs.Meant.{MeantLaw};

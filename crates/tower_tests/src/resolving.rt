@@ -1,4 +1,5 @@
-//! `resolve` over a system of one class, which does nothing but call `Main.main`: the folder brings all else that it calls.
+//! `resolve` over a system of one class, which does nothing but call `Main.main`: the folder brings all else that it
+//! calls.
 ghost use Rattle.std.specs.Prelude.{◌≡◌, ◌≤◌, IfOk, length};
 ghost use Rattle.jack_core.specs.Texts.{the_program};
 ghost use Rattle.jack_machine.specs.Calls.{CallsAreThere};

@@ -1,4 +1,5 @@
-//! Tests of the virtual machine: its trees and texts, linking, the machine, and the translation to the computer (book, chapters 7 and 8).
+//! Tests of the virtual machine: its trees and texts, linking, the machine, and the translation to the computer (book,
+//! chapters 7 and 8).
 #![tactic(auto)]
 
 #[cfg(test)]

@@ -63,8 +63,8 @@ const REFUSED: &[(&[FileRow<'static>], &str)] = &[
     ),
 ];
 
-// A program, and what it is linked to: how many functions, the first to run, the static words of each file, and the steps of each
-// function in turn.
+// A program, and what it is linked to: how many functions, the first to run, the static words of each file, and the
+// steps of each function in turn.
 struct Case<'a> {
     files: &'a [FileRow<'a>],
     bare: bool,

@@ -22,7 +22,8 @@ pub(super) enum Written {
     Return,
 }
 
-/// A function: its name, its number of locals, its lines, and for the first of them their statements and whether they commit.
+/// A function: its name, its number of locals, its lines, and for the first of them their statements and whether they
+/// commit.
 pub(super) type FunctionRow<'a> = (&'a str, u16, &'a [Written], &'a [(u32, bool)]);
 
 /// A file: its name, what stands before its first function, and its functions.
@@ -114,8 +115,8 @@ pub(super) fn sound(
     }
 }
 
-/// Every operation, and every segment, a call, and jumps that are taken and that are not; what each makes goes to a word of `that`.
-/// Sys.sum adds its two arguments over a local, and puts the sum over an argument.
+/// Every operation, and every segment, a call, and jumps that are taken and that are not; what each makes goes to a
+/// word of `that`. Sys.sum adds its two arguments over a local, and puts the sum over an argument.
 pub(super) const EVERY_COMMAND: &[FunctionRow<'static>] = &[
     (
         "Sys.init",

@@ -11,8 +11,8 @@ use vm_tree::Program;
 const EVERY_COMMAND: &str =
     "push constant 1\nfunction Sys.init 0\ncall Sys.f 2\npop temp 0\nlabel END\nif-goto END\ngoto END\nfunction Sys.f 3\npush argument 0\npush local 1\npop static 32767\npop this 2\npop that 3\npush pointer 1\npush temp 7\nadd\nsub\nneg\neq\ngt\nlt\nand\nor\nnot\nshiftleft\nshiftright\nreturn\n";
 
-// texts, whether they are read bare, and what their programs are printed as; how many lines stand before the first function, and
-// how many functions there are
+// texts, whether they are read bare, and what their programs are printed as; how many lines stand before the first
+// function, and how many functions there are
 const READ: &[(&str, bool, &str, (usize, usize))] = &[
     // every command is printed as it stands
     (EVERY_COMMAND, true, EVERY_COMMAND, (1, 2)),

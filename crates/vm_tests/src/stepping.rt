@@ -23,8 +23,8 @@ impl Keyboard for Counting {
     }
 }
 
-// How a drive of this many moves ends, and then: the moves and steps so far, the control point where it is looked at, and words
-// at their addresses.
+// How a drive of this many moves ends, and then: the moves and steps so far, the control point where it is looked at,
+// and words at their addresses.
 #[derive(Clone, Copy)]
 struct Look<'a> {
     bound: u16,
@@ -167,7 +167,8 @@ const CASES: &[Case<'static>] = &[
             words: &[(2048, 7)],
         }],
     },
-    // two statements, the second of which returns; with the call of Sys.init and the drop of its value the steps are four
+    // two statements, the second of which returns; with the call of Sys.init and the drop of its value the steps are
+    // four
     Case {
         functions: &[(
             "Sys.init",

@@ -106,8 +106,8 @@ struct Case<'a> {
 }
 
 const CASES: &[Case<'static>] = &[
-    // The frames of two calls: the return address and the caller's four pointers, and then what the call pushes. Sys.seven's value
-    // 7 stands where its frame began, and goes to the temp word 0.
+    // The frames of two calls: the return address and the caller's four pointers, and then what the call pushes.
+    // Sys.seven's value 7 stands where its frame began, and goes to the temp word 0.
     Case {
         functions: &[
             (
@@ -144,8 +144,8 @@ const CASES: &[Case<'static>] = &[
             (5, 7),
         ],
     },
-    // 20000 < -20000, and -20000 < 20000: the differences are past a word. The answers go to the last two statics, which are the
-    // words 254 and 255, below the stack.
+    // 20000 < -20000, and -20000 < 20000: the differences are past a word. The answers go to the last two statics,
+    // which are the words 254 and 255, below the stack.
     Case {
         functions: &[(
             "Sys.init",
@@ -245,8 +245,8 @@ fn comparison_stays(rt: &impl Abort, alloc: Global) -> Result<(), Fail> {
     Ok(())
 }
 
-// Sys.init with `negs` commands `neg` and then `adds` commands `add` has 58 + 3 * negs + 5 * adds words. Of these 23 are of the start
-// and 34 of the routine of calls. Here stands what is reported of them.
+// Sys.init with `negs` commands `neg` and then `adds` commands `add` has 58 + 3 * negs + 5 * adds words. Of these 23
+// are of the start and 34 of the routine of calls. Here stands what is reported of them.
 const IMAGES: [(u16, u16, &str); 2] = [(10900, 2, "32768 words"), (10902, 1, "TooLarge 32769")];
 
 fn operations(alloc: Global, negs: u16, adds: u16) -> Result<Vec<Written>, AllocError> {

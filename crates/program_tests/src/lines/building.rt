@@ -77,8 +77,8 @@ fn cases_table() -> &'static [Case<'static>] {
 const ROUTINES: &[u8] =
     b"shared 5922 5956\nshared 5956 5996\nshared 5996 6012\nshared 6012 6050\nshared 6050 6088\n";
 
-// The words of the image stand one a line. The map begins with the points of the start code, and ends with the routines; no point is in
-// them.
+// The words of the image stand one a line. The map begins with the points of the start code, and ends with the
+// routines; no point is in them.
 #[test]
 fn a_program_is_built(rt: HostRuntime) -> Result<(), Fail> {
     let alloc = rt.alloc();

@@ -1,5 +1,5 @@
-//! What is expected of a line. A check that fails tells the row of the table and the line. An assertion that is written out costs a test some
-//! hundred steps to prove, and the call of a check ten.
+//! What is expected of a line. A check that fails tells the row of the table and the line. An assertion that is written
+//! out costs a test some hundred steps to prove, and the call of a check ten.
 use super::harness::Outcome;
 use nand_cli::Status;
 use std::process::Abort;

@@ -112,8 +112,8 @@ fn stack_is_full(rt: &impl Abort, alloc: Global) -> Result<(), Fail> {
     Ok(())
 }
 
-// The levels, and for how many moves each program is run there. In 100,000 cycles it ends, and at the gates each of them takes long:
-// examples/levels makes 300,000 there too.
+// The levels, and for how many moves each program is run there. In 100,000 cycles it ends, and at the gates each of
+// them takes long: examples/levels makes 300,000 there too.
 const LEVELS: &[(&str, u32)] = &[
     ("jack", 300_000),
     ("vm", 300_000),

@@ -56,8 +56,8 @@ const POINT: &[(&str, &str)] = &[
     ),
 ];
 
-// Word 1 says where the locals of the call begin, and the return address of `Main.main` stands at 261. At the level of the meaning the two
-// programs stray.
+// Word 1 says where the locals of the call begin, and the return address of `Main.main` stands at 261. At the level of
+// the meaning the two programs stray.
 const LOCALS_MOVED: &[(&str, &str)] = &[(
     "prog/Main.jack",
     "class Main { function void main() { var Array a; let a = 1; let a[0] = 100; return; } }",

@@ -179,8 +179,8 @@ fn fitting_table() -> &'static [(&'static str, Long<'static>, Case<'static>)] {
     FITTING
 }
 
-// what has no computer is run at no level; of the key script, whose moments do not rise or which is not there, nothing is
-// reported
+// what has no computer is run at no level; of the key script, whose moments do not rise or which is not there, nothing
+// is reported
 const UNBUILT: &[&str] = &[
     "run prog --level jack --keys prog/k.txt --cycles 0",
     "run prog --level vm --keys k.txt --cycles 0",
@@ -225,7 +225,8 @@ const TOO_LARGE: &[(&str, Long<'static>, Case<'static>)] = &[
             ..CASE
         },
     ),
-    // however many operators stand in a row, they are read, resolved and counted: 11 words for each sum, 18 for each product
+    // however many operators stand in a row, they are read, resolved and counted: 11 words for each sum, 18 for each
+    // product
     (
         "prog/Main.jack",
         Long {

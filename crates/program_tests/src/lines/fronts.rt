@@ -1,8 +1,9 @@
 //! Fronts of texts: a text of each of the seven languages is broken off after each of its bytes.
 //!
-//! Under each line of a text stands where its tokens and comments begin (`^`). Under that stands what is reported of the fronts that end
-//! in this line, from the one that has nothing of it on: `+` that they are taken, `<` Grammar at their last token, `>` Grammar at their
-//! end. A program in Python made the signs, by the grammars of docs/FORMATS.md; it shares nothing with the readers.
+//! Under each line of a text stands where its tokens and comments begin (`^`). Under that stands what is reported of
+//! the fronts that end in this line, from the one that has nothing of it on. The signs are `+` that they are taken, `<`
+//! Grammar at their last token, and `>` Grammar at their end. A program in Python made them, by the grammars of
+//! docs/FORMATS.md; it shares nothing with the readers.
 use super::checks::{ended, has_length, has_status};
 use super::harness::{NONE, files_of, outcome_over};
 use nand_cli::Status;

@@ -1,7 +1,7 @@
 //! Hostile texts: each limit of a text at its number and past it, and empty files, by the lines that read them.
 //!
-//! The limits of an assembly text as a whole (bytes, words, variables) stand with the lines of `asm` and `exec`, those of a script with
-//! the lines of `test` (`scripts.rt`).
+//! The limits of an assembly text as a whole (bytes, words, variables) stand with the lines of `asm` and `exec`, those
+//! of a script with the lines of `test` (`scripts.rt`).
 use super::checks::{ended, has_status, holds};
 use super::harness::{NONE, Outcome, file_of, outcome_of, outcome_over};
 use super::{doubled, line_ends, lines_in};
@@ -201,8 +201,8 @@ fn folders_at_their_limit(rt: HostRuntime) -> Result<(), Fail> {
     Ok(())
 }
 
-// Chips that double, and what is reported of a script that loads them. No chip is expanded before its nodes are counted, which are those of
-// its parts, its input, and two constants.
+// Chips that double, and what is reported of a script that loads them. No chip is expanded before its nodes are
+// counted, which are those of its parts, its input, and two constants.
 const DOUBLED: &[(&str, &str)] = &[
     ("load C4.hdl;", ""),
     ("load C24.hdl;", "t/C24.hdl:0:0: TooManyNodes 16777219\n"),

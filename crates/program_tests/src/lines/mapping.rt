@@ -59,8 +59,8 @@ fn program_table() -> &'static [(&'static str, &'static str)] {
     PROGRAM
 }
 
-// Each point is at the first token of its statement. Number 0 of a constructor is at its name, and the added return of `grow` at the
-// brace that closes the body.
+// Each point is at the first token of its statement. Number 0 of a constructor is at its name, and the added return of
+// `grow` at the brace that closes the body.
 const POINTS: &str = "map 2
 point 0 21 start 1 start 0 0
 point 21 23 start 2 start 0 0
@@ -83,8 +83,8 @@ point 295 297 Zoo.grow 1 Zoo.jack 13 9
 point 297 305 Zoo.grow 6 Zoo.jack 18 5
 point 305 ";
 
-// The folder's own subroutines that are linked, in order of address: one of a class with a static of which nothing is linked is not
-// there. A method's object is argument 0, which has no name.
+// The folder's own subroutines that are linked, in order of address: one of a class with a static of which nothing is
+// linked is not there. A method's object is argument 0, which has no name.
 const SUBROUTINES: &str = "sub Main.main function 0 1
 var Main.main zoo local 0
 sub Zoo.new constructor 1 0
@@ -96,7 +96,8 @@ var Zoo.grow left local 1
 var Zoo.grow more local 2
 ";
 
-// Zoo is the last class by name, after those of the operating system. No code names `unused` and `open`, which have no word.
+// Zoo is the last class by name, after those of the operating system. No code names `unused` and `open`, which have no
+// word.
 const CLASSES: &str = "field Zoo size 0\nfield Zoo age 1\nstatic Zoo count 16\n";
 
 // A line names a subroutine of the folder or one of its variables.

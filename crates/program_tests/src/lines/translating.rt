@@ -186,7 +186,8 @@ const COMPARISONS: Long<'static> = Long {
     ..NO_TEXT
 };
 
-// Besides there are 23 words of the start, 1 of the function and 2 of the jump, and the routines of calls and of `lt` with 34 and 38.
+// Besides there are 23 words of the start, 1 of the function and 2 of the jump, and the routines of calls and of `lt`
+// with 34 and 38.
 const COMPARISONS_LINES: u32 = 950 * 21 + 98;
 
 fn comparisons_are_short(rt: &impl Abort, alloc: Global) -> Result<(), Fail> {

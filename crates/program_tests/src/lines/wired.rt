@@ -30,8 +30,8 @@ fn are_alike(gates: &[u8], hack: &[u8]) -> bool {
     gates.get(12..) == hack.get(11..)
 }
 
-// After the first line the reports of a class Main with these statements are the same at the two levels of the computer. With a netlist that is
-// simplified it is the same report.
+// After the first line the reports of a class Main with these statements are the same at the two levels of the
+// computer. With a netlist that is simplified it is the same report.
 fn reports_alike(rt: &impl Abort, alloc: Global, body: &str, further: &str) -> Result<(), Fail> {
     let text = class_of(alloc, body)?;
     let files = [("prog/Main.jack", text.as_str())];

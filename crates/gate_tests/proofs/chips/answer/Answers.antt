@@ -2,4 +2,4 @@ use Rattle.hack_cpu.proofs.Libraries.{libraries}
 use Rattle.gate_tests.proofs.chips.answer.Goals as goal
 
 pub elaborate-requires-clause-ends : goal.elaborate-requires-clause-ends
-elaborate-requires-clause-ends c = libraries.ends c.args.library.now.entries c.args.blocks c.requires
+elaborate-requires-clause-ends c = libraries.ends c.args.library.now.entries c.args.memories c.requires
