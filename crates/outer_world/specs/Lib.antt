@@ -1,5 +1,6 @@
 pub mod Faults
 pub mod Files
+pub mod Entries
 pub mod State
 pub mod Written
 pub mod Held

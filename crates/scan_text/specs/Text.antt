@@ -47,6 +47,10 @@ capped_count n = min n 1000000001
 abbrev pub start : Place
 start = record { line = 1; column = 1 }
 
+-- the place of what stands in no text
+abbrev pub nowhere : Place
+nowhere = record { line = 0; column = 0 }
+
 abbrev pub number_at : List ℕ → Option ℕ
 number_at [] = None
 number_at (d ∷ ds) = Some (capped_count (decimal 0 (d ∷ ds)))
