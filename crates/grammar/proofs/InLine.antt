@@ -3,13 +3,15 @@ use Rattle.std.proofs.Common.{◌≡◌, ℕ, suc, ◌-◌, ◌≤◌, Bool, tru
 use Rattle.std.specs.Prelude.{◌==◌, ◌||◌, ◌&&◌}
 use Rattle.std.proofs.lemmas.Bool.{and_parts, or_cases}
 use Rattle.scan_text.specs.declared.Place.{Place}
+use Rattle.scan_text.specs.Text.{is_digit}
 use Rattle.scan_text.specs.Blanks.{starts, line, line_end}
 use Rattle.grammar.specs.declared.Fault.{Fault}
 use Rattle.grammar.specs.declared.Fault.TheVariants.{Grammar}
 use Rattle.grammar.specs.Cutting.{Piece, Passed, Wrong}
 use Rattle.grammar.specs.Between.{EndsLine, AtEnd, AtFeed, AtReturnAndFeed, IsInLine, IsBetweenInLine, ASpace, ATab, AComment}
 use Rattle.grammar.specs.Lines.{comment_piece}
-use Rattle.grammar.proofs.Longest.{IsCut, Passes, cut_if}
+use Rattle.grammar.specs.Longest.{IsOver}
+use Rattle.grammar.proofs.Longest.{IsCut, Passes, cut_if, no_digit, limited, limited_refuses, over_begins, none_over}
 use Rattle.grammar.proofs.Spaced.{take_none, less_one}
 
 -- the rest of a line
@@ -104,3 +106,16 @@ module _ {T : Type 0} (piece : List ℕ → Piece T) (space : (bs : List ℕ) �
   passes_between b bs behind ASpace = space behind
   passes_between b bs behind ATab = tab behind
   passes_between b bs behind (AComment {bs = cs} inside ended) = comment (cs ++ behind) ∙ ap Passed (less_one 47 (47 ∷ line (cs ++ behind))) ∙ ap (λ (l : List ℕ). Passed (suc (length l))) (line_is cs behind inside ended)
+
+-- A number past its limit is refused, where blanks and tabs are passed over, and else a digit begins a number.
+pub over_refused : {T : Type 0} (piece : List ℕ → Piece T) (token : List ℕ → Place → T) (others : ℕ → List ℕ → Piece T)
+    → ((b : ℕ) (bs : List ℕ) → piece (b ∷ bs) ≡ cond (b == 32 || b == 9) (Passed 0) (cond (is_digit b) (limited (token (b ∷ bs)) (b ∷ bs)) (others b (b ∷ bs))))
+    → (bs : List ℕ) (f : Place → Fault) → IsOver 32767 bs f → piece bs ≡ Wrong f
+over_refused piece token others is [] f h = absurd (none_over f h)
+over_refused piece token others is (b ∷ bs) f h =
+    let all = b ∷ bs in
+    let digit : is_digit b ≡ true = over_begins b bs f h in
+    is b bs
+    ∙ ap (λ (t : Bool). cond t (Passed 0) (cond (is_digit b) (limited (token all) all) (others b all))) (no_digit (λ c. c == 32 || c == 9) refl b digit)
+    ∙ ap (λ (t : Bool). cond t (limited (token all) all) (others b all)) digit
+    ∙ limited_refuses (token all) all f h

@@ -8,10 +8,11 @@ use Rattle.std.proofs.lemmas.Fmt.{decimal_by_steps}
 use Rattle.scan_text.specs.declared.Place.{Place}
 use Rattle.scan_text.specs.declared.Blank.{Blank}
 use Rattle.scan_text.specs.declared.Blank.TheVariants.{Over, Unclosed, Other}
-use Rattle.scan_text.specs.Text.{start, step, walk, front, decimal}
+use Rattle.scan_text.specs.Text.{start, step, walk, front, is_digit, decimal}
 use Rattle.scan_text.specs.Blanks.{blank, comment, is_blank}
 use Rattle.grammar.specs.declared.Fault.{Fault}
 use Rattle.grammar.specs.Cutting.{Piece, Passed, Token, Wrong, closes_with_nothing, cut, cut_by, with_token, past_blank, past_blanks, tokens_between_blanks, too_long}
+use Rattle.grammar.specs.Words.{is_letter, is_name_byte, token_of, word_of}
 use Rattle.grammar.proofs.Cuts.{pending, within_limit, followed_is, none_is}
 
 -- lists
@@ -228,6 +229,66 @@ module _ {T : Type 0} (piece : List ℕ → Piece T) where
           let out = flat_map set_off (map shown ts) in
           let fits : nat_lt 1048576 (length out) ≡ false = le-ltb _ _ small in
           (all.tokens, ap (λ (t : Bool). cond t (Err too_long) (C None start out)) fits ∙ all.cut, all.same)
+
+-- words, symbols and numbers, whose tokens are a kind, a text and a place
+
+module _ {K T : Type 0} (made : K → List ℕ → Place → T) where
+  pub token_is : (k k' : K) (n n' : ℕ) (bs text : List ℕ) → k ≡ k' → n ≡ n' → take (suc n') bs ≡ text → token_of made k n bs ≡ Token (made k' text) n'
+  token_is k k' n n' bs text ek en et = (λ i. token_of made (ek i) (en i) bs) ∙ (λ i. Token (made k' (et i)) n')
+
+-- a word whose text has a kind
+pub record Named {K : Type 0} (word_kind : List ℕ → K) (text : List ℕ) (k : K) : Type 0 where
+  pub first : ℕ
+  pub more : List ℕ
+  pub is : text ≡ first ∷ more
+  pub letter : is_letter first ≡ true
+  pub names : All is_name_byte more
+  pub kind : word_kind text ≡ k
+
+pub letter_names : (b : ℕ) → is_letter b ≡ true → is_name_byte b ≡ true
+letter_names b e = rw e refl
+
+-- the word at the front of a text that begins with a letter
+pub named_front : {K : Type 0} (word_kind : List ℕ → K) (b : ℕ) (bs : List ℕ) → is_letter b ≡ true → Named word_kind (front is_name_byte (b ∷ bs)) (word_kind (front is_name_byte (b ∷ bs)))
+named_front word_kind b bs l =
+    record { first = b; more = front is_name_byte bs; is = ap (λ (t : Bool). cond t (b ∷ front is_name_byte bs) []) (letter_names b l); letter = l; names = all_front is_name_byte bs; kind = refl }
+
+module _ {K T : Type 0} (piece : List ℕ → Piece T) (made : K → List ℕ → Place → T) where
+  -- a word is cut before a blank
+  pub named_cut : (word_kind : List ℕ → K) → ((b : ℕ) (bs : List ℕ) → is_letter b ≡ true → piece (b ∷ bs) ≡ word_of made word_kind (b ∷ bs))
+      → (k : K) (text : List ℕ) → Named word_kind text k → (t : Bool) (rest : List ℕ) → Stands piece (made k text) text t rest
+  named_cut word_kind words k text h t rest =
+      let b = h.first in
+      let w = h.more in
+      let all = b ∷ (w ++ gap t ∷ rest) in
+      let run : front is_name_byte all ≡ b ∷ w = front_all is_name_byte (b ∷ w) (gap t) rest (letter_names b h.letter, h.names) (gap_fails is_name_byte refl refl t) in
+      let other : blank all ≡ Other = no_comment b (w ++ gap t ∷ rest) (no_blank is_letter b h.letter refl refl refl refl) (differs is_letter b 47 h.letter refl) in
+      let token : word_of made word_kind all ≡ Token (made k text) (length w) =
+      token_is made (word_kind (front is_name_byte all)) k (length (front is_name_byte all) - 1) (length w) all text
+      (ap word_kind (run ∙ sym h.is) ∙ h.kind) (ap (λ (l : List ℕ). length l - 1) run ∙ less_one b w) (front_taken b w (gap t ∷ rest) ∙ sym h.is) in
+      record { first = b; more = w; is = h.is; cut_so = ap (λ (x : Blank). past_blank x (piece all)) other ∙ words b (w ++ gap t ∷ rest) h.letter ∙ token }
+
+  -- a symbol is cut before a blank
+  pub symbol_cut : (k : K) (b : ℕ) → is_blank b ≡ false → ((bs : List ℕ) → piece (b ∷ bs) ≡ token_of made k 0 (b ∷ bs)) → (t : Bool) (rest : List ℕ) → Stands piece (made k (b ∷ [])) (b ∷ []) t rest
+  symbol_cut k b bare symbols t rest =
+      record { first = b; more = []; is = refl; cut_so = ap (λ (x : Blank). past_blank x (piece (b ∷ gap t ∷ rest))) (symbol_alone b t rest bare) ∙ symbols (gap t ∷ rest) }
+
+plain_by : (x y z : Bool) → cond x false (cond y false z) ≡ true → (x ≡ false) × (y ≡ false) × (z ≡ true)
+plain_by true y z e = absurd cc
+plain_by false true z e = absurd cc
+plain_by false false z e = (refl, refl, e)
+
+-- digits, which are no signs
+module _ (is_sign : ℕ → Bool) where
+  abbrev pub plain : ℕ → Bool
+  plain b = if is_letter b then false else (if is_sign b then false else is_digit b)
+
+  pub plain_is : (b : ℕ) → plain b ≡ true → (is_letter b ≡ false) × (is_sign b ≡ false) × (is_digit b ≡ true)
+  plain_is b e = plain_by (is_letter b) (is_sign b) (is_digit b) e
+
+  pub plain_digits : (ds : List ℕ) → All plain ds → All is_digit ds
+  plain_digits [] a = tt
+  plain_digits (d ∷ ds) a = ((plain_is d a.0).2, plain_digits ds a.1)
 
 -- what all tokens of a text are
 

@@ -8,3 +8,5 @@ pub mod Lines
 pub mod Between
 pub mod Longest
 pub mod Printed
+pub mod Words
+pub mod Placed

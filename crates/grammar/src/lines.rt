@@ -6,7 +6,9 @@ ghost use Rattle.scan_text.specs.Text.{first, start, walk};
 ghost use Rattle.scan_text.specs.View.{left_bytes};
 ghost use Rattle.grammar.specs.Cutting.{Piece, NextBy, cut, cut_text, last_of};
 ghost use Rattle.grammar.specs.Lines.{comment_piece, line_end_piece, is_open, close};
+ghost use Rattle.grammar.specs.Placed.{placed};
 ghost use Rattle.grammar.specs.Reading.{Gives};
+ghost use Rattle.grammar.specs.declared.lines.Placed.{Placed};
 
 use crate::cutting::{MOST_BYTES, too_long};
 use crate::{Fault, ReadError};
@@ -43,6 +45,69 @@ pub trait LineCutter<'a>: LineToken {
     fn next(scan: &mut Scan<'a>, byte: u8) -> Result<Option<Self>, Fault>
         requires { first (left_bytes scan.old) ≡ Some byte }
         ensures { NextBy Self.view (Self.piece (left_bytes scan.old)) scan.old result scan.new };
+}
+
+/// What a token is in a language whose tokens are a kind and a place, and no more.
+pub trait LineKind: Copy {
+    /// What begins at the front of some bytes.
+    ghost piece: { List ℕ → Piece (Placed Self) };
+
+    /// The kind of a line end, and which kinds are line ends.
+    ghost line_end_kind: { Self };
+
+    ghost is_line_end: { Self → Bool };
+
+    /// The kind of a line end.
+    fn line_end() -> Self
+        ensures { result ≡ line_end_kind };
+
+    /// Is this the kind of a line end?
+    fn is_line_end(self) -> bool
+        ensures { result ≡ is_line_end self };
+}
+
+/// Such a kind, whose tokens are read from a text.
+pub trait KindCutter: LineKind {
+    /// What begins at the next byte: a token, or something that is passed over.
+    fn next(scan: &mut Scan, byte: u8) -> Result<Option<Placed<Self>>, Fault>
+        requires { first (left_bytes scan.old) ≡ Some byte }
+        ensures { NextBy (λ t. t) (Self.piece (left_bytes scan.old)) scan.old result scan.new };
+}
+
+/// A token of a kind, and the place where it begins.
+#[derive(Clone, Copy)]
+pub struct Placed<K> {
+    pub kind: K,
+    pub place: Place,
+}
+
+impl<K: LineKind> LineToken for Placed<K> {
+    ghost Word = { Placed K };
+
+    ghost view = { λ t. t };
+
+    ghost piece = { K.piece };
+
+    ghost line_end_token = { placed K.line_end_kind };
+
+    ghost ends = { λ t. K.is_line_end t.kind };
+
+    fn line_end(place: Place) -> Placed<K> {
+        Placed {
+            kind: K::line_end(),
+            place,
+        }
+    }
+
+    fn ends_line(&self) -> bool {
+        self.kind.is_line_end()
+    }
+}
+
+impl<'a, K: KindCutter> LineCutter<'a> for Placed<K> {
+    fn next(scan: &mut Scan<'a>, byte: u8) -> Result<Option<Placed<K>>, Fault> {
+        K::next(scan, byte)
+    }
 }
 
 /// Goes over a comment of two slashes, up to the end of its line. Grammar, where the slash stands alone.

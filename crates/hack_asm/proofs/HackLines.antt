@@ -6,14 +6,14 @@ use Rattle.grammar.specs.declared.ReadError.{ReadError}
 use Rattle.grammar.specs.declared.ReadError.TheVariants as errors
 use Rattle.std.specs.Prelude.{IfOk}
 use Rattle.grammar.specs.Reading.{Halt, memory, fault as told, ParsesAll}
-use Rattle.hack_asm.specs.declared.hack_tokens.Token.{Token}
+use Rattle.hack_asm.specs.HackTokens.{Word as Token}
 use Rattle.grammar.specs.Rules.{Skip, Leaf, Pair, Left, Right, More}
 use Rattle.grammar.proofs.Wholes.{one_tree, not_both, first_fault}
 use Rattle.word16.specs.Words.{number_of}
 use Rattle.word16.proofs.Bits.{written}
 use Rattle.hack_asm.specs.declared.fault.AsmFault.{AsmFault}
 use Rattle.hack_asm.specs.declared.hack_tokens.Kind.TheVariants.{Digit}
-use Rattle.hack_asm.specs.Faults.{Wrong, wrong, wrong_of, asm_fault, Told, Yields}
+use Rattle.hack_asm.specs.Faults.{Wrong, wrong, wrong_of, asm_fault, IsErrorOf, Yields}
 use Rattle.hack_asm.specs.HackTokens.{tokens_of, finish}
 use Rattle.hack_asm.specs.HackText.{HackTree, hack, whole, word_tree, line_tree, lines_tree, text_tree, IsLine, AreLines, Spells, Refuses, within_limit, words_of, Holds, HoldsWrong, IsRefusal, HoldsOf}
 
@@ -97,7 +97,7 @@ refusal text _ memory = tt
 refusal text _ (told c) = refusal_by text _ c
 
 -- what the lines of a text yield
-told_wrong : (text : List ℕ) (ls : List (Option ℕ)) (o : Option Wrong) → Spells text ls → Told o (within_limit (words_of ls)) → HoldsWrong text o
+told_wrong : (text : List ℕ) (ls : List (Option ℕ)) (o : Option Wrong) → Spells text ls → IsErrorOf o (within_limit (words_of ls)) → HoldsWrong text o
 told_wrong text ls None s h = tt
 told_wrong text ls (Some w) s h = inl (ls, s, sym h)
 
@@ -105,7 +105,7 @@ pub yielded : {X : Type 0} (view : X → List ℕ) (text : List ℕ) (ls : List 
 yielded view text ls (Ok x) s h = inl (ls, s, sym h)
 yielded view text ls (Err e) s h = told_wrong text ls (wrong_of e) s h
 
-means_by : (text : List ℕ) (o : Option Wrong) (r : Result (List ℕ) Wrong) → HoldsWrong text o → Holds text r → Told o r
+means_by : (text : List ℕ) (o : Option Wrong) (r : Result (List ℕ) Wrong) → HoldsWrong text o → Holds text r → IsErrorOf o r
 means_by text None r h m = tt
 means_by text (Some w) r h m = one_meaning text r (Err w) m h
 

@@ -16,7 +16,7 @@ use Rattle.hack_asm.specs.declared.words.Before.TheVariants.{Sum, Join}
 use Rattle.hack_asm.specs.Tokens.{Word}
 use Rattle.hack_asm.specs.Grammar.{Said, Letter', Operator', Shift', Part, assembly, letter_role, role_said, operator_role, is_zero, is_one, is_a, is_d, is_m, by_letter, some_letter, operation, shift, shifts, shift_role, behind, is_register, adds, meets, assigns, assignment, after_letter, comp, sign, unary, assignment_part, several_role, is_several, Several}
 use Rattle.hack_asm.specs.Trees.{AsmTree, branch, other, operation_tree}
-use Rattle.hack_asm.specs.Before.{letter_by, letter_next, operator_by, operator_next, shift_by, shift_next, assigns_next, several_by, several_next, suits}
+use Rattle.hack_asm.specs.Inner.Before.{letter_by, letter_next, operator_by, operator_next, shift_by, shift_next, assigns_next, several_by, several_next, suits}
 use Rattle.grammar.proofs.Entered.{firm, entered, skip, skip_stops}
 
 abbrev pub R : Place → Part → List Word → AsmTree → List Word → Type 0

@@ -1,5 +1,5 @@
 -- Each token of an assembly text is the longest that begins where it begins, and what may stand between tokens is passed over.
-use Rattle.std.proofs.Common.{◌≡◌, ℕ, suc, ◌-◌, Bool, true, cond, List, [], ◌∷◌, ◌++◌, length, take, drop, refl, sym, subst, ap, ◌∙◌, arith}
+use Rattle.std.proofs.Common.{◌≡◌, ℕ, suc, ◌-◌, Bool, true, cond, List, [], ◌∷◌, ◌++◌, length, take, drop, refl, sym, subst, ap, arith}
 use Rattle.std.specs.Prelude.{◌==◌, ◌||◌, codes}
 use Rattle.std.specs.List.{All}
 use Rattle.std.specs.Char.{is_ascii_alphabetic}
@@ -14,9 +14,9 @@ use Rattle.grammar.specs.Cutting.{Piece, Passed, Wrong}
 use Rattle.grammar.specs.Lines.{comment_piece, line_end_piece}
 use Rattle.grammar.specs.Longest.{IsLongestMatch, IsOver}
 use Rattle.grammar.proofs.Bytes.{account_of, test_of, contains, contained, run_account, run_test}
-use Rattle.grammar.proofs.InLine.{blank_is_cut, comment_is_cut, passes_between}
+use Rattle.grammar.proofs.InLine.{blank_is_cut, comment_is_cut, passes_between, over_refused}
 use Rattle.grammar.proofs.Longest as longest
-use Rattle.grammar.proofs.Longest.{IsCut, Reaches, cut_if, reaches_if, front_run, run_is_cut, byte_is_cut, run_reached, no_digit, limited_is_cut, limited_reaches, over_begins, none_over, limited_refuses, end_is_cut, front_is}
+use Rattle.grammar.proofs.Longest.{IsCut, Reaches, cut_if, reaches_if, front_run, run_is_cut, byte_is_cut, run_reached, no_digit, limited_is_cut, limited_reaches, end_is_cut, front_is}
 use Rattle.grammar.proofs.Spaced.{take_none}
 use Rattle.hack_asm.specs.declared.token.Kind.TheVariants.{Sign, Number}
 use Rattle.hack_asm.specs.Tokens.{Word, made_word, word_of, number_piece, symbol_piece, line_end_token, piece, is_letter, is_symbol_byte, is_sign, begins_left_shift, begins_right_shift, shift_piece}
@@ -121,13 +121,7 @@ passes : (b : ℕ) (bs behind : List ℕ) → IsBetweenInLine (b ∷ bs) behind 
 passes = passes_between piece (λ bs. refl) (λ bs. refl) (λ bs. refl)
 
 refuses : (bs : List ℕ) (f : Place → Fault) → IsOver 32767 bs f → piece bs ≡ Wrong f
-refuses [] f h = absurd (none_over f h)
-refuses (b ∷ bs) f h =
-    let all = b ∷ bs in
-    let digit : is_digit b ≡ true = over_begins b bs f h in
-    ap (λ (t : Bool). cond t (Passed 0) (number_or b all)) (no_digit blank_byte refl b digit)
-    ∙ ap (λ (t : Bool). cond t (number_piece all) (symbol_or b all)) digit
-    ∙ limited_refuses (number all) all f h
+refuses = over_refused piece number symbol_or (λ b bs. refl)
 
 pub longest_match : IsLongestMatch IsOne IsBetweenInLine (IsOver 32767) piece
 longest_match = longest.longest_match IsOne IsBetweenInLine (IsOver 32767) piece cut reaches passes refuses

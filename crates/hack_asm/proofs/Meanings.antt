@@ -10,7 +10,7 @@ use Rattle.hack_asm.specs.declared.fault.AsmFault.{AsmFault}
 use Rattle.hack_asm.specs.Tokens.{tokens_of, finish}
 use Rattle.hack_asm.specs.Grammar.{assembly, whole}
 use Rattle.hack_asm.specs.Trees.{Line, Spells, Refuses, text_tree}
-use Rattle.hack_asm.specs.Faults.{Wrong, wrong, wrong_of, asm_fault, Told, Yields}
+use Rattle.hack_asm.specs.Faults.{Wrong, wrong, wrong_of, asm_fault, IsErrorOf, Yields}
 use Rattle.hack_asm.specs.Program.{program}
 use Rattle.hack_asm.specs.Meaning.{Means, MeansWrong, IsRefusal, MeansOf}
 use Rattle.hack_asm.proofs.Exactness.{spelled_once}
@@ -34,14 +34,14 @@ refusal text _ (told c) = refusal_by text _ c
 pub yields_ok : {X : Type 0} (view : X → List ℕ) (text : List ℕ) (ls : List Line) (x : X) → Spells text ls → program ls ≡ Ok (view x) → Means text (Ok (view x))
 yields_ok view text ls x s e = inl (ls, s, sym e)
 
-told_wrong : (text : List ℕ) (ls : List Line) (o : Option Wrong) → Spells text ls → Told o (program ls) → MeansWrong text o
+told_wrong : (text : List ℕ) (ls : List Line) (o : Option Wrong) → Spells text ls → IsErrorOf o (program ls) → MeansWrong text o
 told_wrong text ls None s h = tt
 told_wrong text ls (Some w) s h = inl (ls, s, sym h)
 
-pub yields_err : (text : List ℕ) (ls : List Line) (e : AsmFault) → Spells text ls → Told (wrong_of e) (program ls) → IsRefusal text e
+pub yields_err : (text : List ℕ) (ls : List Line) (e : AsmFault) → Spells text ls → IsErrorOf (wrong_of e) (program ls) → IsRefusal text e
 yields_err text ls e s h = told_wrong text ls (wrong_of e) s h
 
-means_by : (text : List ℕ) (o : Option Wrong) (r : Result (List ℕ) Wrong) → MeansWrong text o → Means text r → Told o r
+means_by : (text : List ℕ) (o : Option Wrong) (r : Result (List ℕ) Wrong) → MeansWrong text o → Means text r → IsErrorOf o r
 means_by text None r h m = tt
 means_by text (Some w) r h m = one_meaning text r (Err w) m h
 

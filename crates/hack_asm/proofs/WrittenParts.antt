@@ -23,7 +23,7 @@ use Rattle.hack_asm.specs.Roles.{role_of}
 use Rattle.hack_asm.specs.Tokens.{Word, made_word, word_of, line_end_token, piece}
 use Rattle.hack_asm.specs.Grammar.{Said, Letter', assembly, is_sign, is_line_end, jump_role, role_said, is_register, is_not_zero, some_letter, maybe_behind, after_letter, unary, comp, operation, assignment_part, jump}
 use Rattle.hack_asm.specs.Trees.{comp_tree, unary_tree, assigned_tree, operation_tree, jump_tree}
-use Rattle.hack_asm.specs.Before.{letter_next, operator_next, operator_by, shift_next, assigns_next, several_next, several_by, suits}
+use Rattle.hack_asm.specs.Inner.Before.{letter_next, operator_next, operator_by, shift_next, assigns_next, several_next, several_by, suits}
 use Rattle.hack_asm.specs.Comps.{Texts, computations, entry, or_nothing, text_in, meaning}
 use Rattle.hack_asm.specs.Program.{register_bit, dest_bits, jump_bits}
 use Rattle.hack_asm.specs.Written.{destinations, jumps}

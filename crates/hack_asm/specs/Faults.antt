@@ -34,11 +34,12 @@ asm_fault errors.Memory = asm.Memory
 asm_fault (errors.Fault (fault.Grammar at)) = asm.Grammar at
 asm_fault (errors.Fault (fault.Range at v)) = asm.Range at v
 
-abbrev pub Told : {Y : Type 0} → Option Wrong → Result Y Wrong → Type 0
-Told None r = Unit {0}
-Told (Some w) r = r ≡ Err w
+-- the result is this error, where there is one
+abbrev pub IsErrorOf : {Y : Type 0} → Option Wrong → Result Y Wrong → Type 0
+IsErrorOf None r = Unit {0}
+IsErrorOf (Some w) r = r ≡ Err w
 
 -- what a function returned, seen by view, is what a definition gives, unless memory ran out
 abbrev pub Yields : {X Y : Type 0} → (X → Y) → Result X AsmFault → Result Y Wrong → Type 0
 Yields view (Ok x) r = r ≡ Ok (view x)
-Yields view (Err e) r = Told (wrong_of e) r
+Yields view (Err e) r = IsErrorOf (wrong_of e) r

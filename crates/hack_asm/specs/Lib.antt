@@ -2,7 +2,6 @@ pub mod Roles
 pub mod Tokens
 pub mod Grammar
 pub mod Trees
-pub mod Before
 pub mod Faults
 pub mod Comps
 pub mod Program

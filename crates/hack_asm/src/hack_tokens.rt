@@ -5,10 +5,11 @@ ghost use Rattle.scan_text.specs.Text.{first};
 ghost use Rattle.scan_text.specs.View.{left_bytes};
 ghost use Rattle.grammar.specs.Cutting.{NextBy};
 ghost use Rattle.grammar.specs.Cutting.{Token as Cut};
+ghost use Rattle.grammar.specs.Placed.{placed};
 ghost use Rattle.grammar.specs.Reading.{Gives};
-ghost use Rattle.hack_asm.specs.HackTokens.{view, tokens_of, finish, made_token};
+ghost use Rattle.hack_asm.specs.HackTokens.{tokens_of, finish};
 
-use grammar::{Fault, LineCutter, LineToken, ReadError, cut_lines, line_end};
+use grammar::{Fault, KindCutter, LineKind, Placed, ReadError, cut_lines, line_end};
 use scan_text::{Place, Scan};
 use std::alloc::Global;
 
@@ -19,52 +20,42 @@ pub enum Kind {
     LineEnd,
 }
 
-/// A token, and the place where it begins.
-#[derive(Clone, Copy)]
-pub struct Token {
-    pub kind: Kind,
-    pub place: Place,
+impl LineKind for Kind {
+    ghost use Rattle.hack_asm.specs.HackTokens.{piece, is_line_end};
+    ghost use Rattle.hack_asm.specs.declared.hack_tokens.Kind.TheVariants.{LineEnd};
+
+    ghost piece = { piece };
+
+    ghost line_end_kind = { LineEnd };
+
+    ghost is_line_end = { is_line_end };
+
+    fn line_end() -> Kind {
+        Kind::LineEnd
+    }
+
+    fn is_line_end(self) -> bool {
+        matches!(self, Kind::LineEnd)
+    }
 }
+
+/// A token, and the place where it begins.
+pub type Token = Placed<Kind>;
 
 fn digit(scan: &mut Scan, byte: u8, bit: bool) -> Result<Option<Token>, Fault>
     requires { first (left_bytes scan.old) ≡ Some byte }
-    ensures { NextBy view (Cut (made_token (Kind.Digit bit)) 0) scan.old result scan.new }
+    ensures { NextBy (λ t. t) (Cut (placed (Kind.Digit bit)) 0) scan.old result scan.new }
 {
     let place = scan.place();
     scan.skip(1);
-    Ok(Some(Token {
+    Ok(Some(Placed {
         kind: Kind::Digit(bit),
         place,
     }))
 }
 
-impl LineToken for Token {
-    ghost use Rattle.hack_asm.specs.HackTokens.{Word, view, piece, line_end_token, ends_line};
-
-    ghost Word = { Word };
-
-    ghost view = { view };
-
-    ghost piece = { piece };
-
-    ghost line_end_token = { line_end_token };
-
-    ghost ends = { ends_line };
-
-    fn line_end(place: Place) -> Token {
-        Token {
-            kind: Kind::LineEnd,
-            place,
-        }
-    }
-
-    fn ends_line(&self) -> bool {
-        matches!(self.kind, Kind::LineEnd)
-    }
-}
-
-impl<'a> LineCutter<'a> for Token {
-    fn next(scan: &mut Scan<'a>, byte: u8) -> Result<Option<Token>, Fault> {
+impl KindCutter for Kind {
+    fn next(scan: &mut Scan, byte: u8) -> Result<Option<Token>, Fault> {
         if byte == b'0' {
             return digit(scan, byte, false);
         }

@@ -5,7 +5,7 @@ ghost use Rattle.grammar.specs.Reading.{ParsesBy};
 ghost use Rattle.hack_asm.specs.Tokens.{view};
 ghost use Rattle.hack_asm.specs.Grammar.{assembly, unary, comp, by_letter, after_letter, assignment_part, compute, label, address, content, line};
 ghost use Rattle.hack_asm.specs.Trees.{unary_tree, comp_of, comp_tree, bare_tree, assigned_tree, compute_tree, symbol_of, address_of, address_tree, item_of, item_tree, line_of, line_tree};
-ghost use Rattle.hack_asm.specs.Before.{Operates, Continues};
+ghost use Rattle.hack_asm.specs.Inner.Before.{Operates, Continues};
 ghost use Rattle.grammar.specs.Rules.{Leaf, Pair, Skip};
 ghost use Rattle.hack_asm.specs.Grammar.{Name};
 

@@ -1,11 +1,12 @@
 //! Readers of one token of assembly.
+#![tactic(auto, using(grammar::proofs::OneToken::one_token))]
 
 ghost use Rattle.std.specs.Prelude.{◌≡◌, map, option_map};
-ghost use Rattle.grammar.specs.Reading.{ParsesBy, PassesBy, Gives, word_at, mark_at};
+ghost use Rattle.grammar.specs.Reading.{ParsesBy, PassesBy};
 ghost use Rattle.grammar.specs.Rules.{Leaf, next, word};
 ghost use Rattle.hack_asm.specs.Tokens.{view};
-ghost use Rattle.hack_asm.specs.Grammar.{assembly, Letter', Jump, Number, Name, is_sign, sign, is_line_end, line_end, is_symbol, symbol, name, is_number, number, is_jump, is_letter, some_letter, free, word_meaning, is_register, adds, meets};
-ghost use Rattle.hack_asm.specs.Before.{suits, letter_next, several_next, operator_next, shift_next, assigns_next};
+ghost use Rattle.hack_asm.specs.Grammar.{assembly, Letter', Jump, Number, Name, is_sign, sign, is_line_end, line_end, symbol, is_number, number, is_jump, some_letter, free, word_meaning, is_register, adds, meets};
+ghost use Rattle.hack_asm.specs.Inner.Before.{suits, letter_next, several_next, operator_next, shift_next, assigns_next};
 
 use crate::lines::Symbol;
 use crate::token::{Kind, Letter, Operator, Role, Token};
@@ -27,9 +28,8 @@ fn grammar_fault(place: Place) -> ReadError
     ReadError::Fault(Fault::Grammar(place))
 }
 
-fn sign_at<'a>(tokens: &'a [Token<'a>], end: Place, byte: u8) -> Result<&'a [Token<'a>], ReadError>
-    ensures { Gives (λ x. map view x.now) result
-        (mark_at (assembly end) (is_sign byte) (map view tokens.now)) }
+pub fn sign<'a>(tokens: &'a [Token<'a>], end: Place, byte: u8) -> Result<&'a [Token<'a>], ReadError>
+    ensures { PassesBy view (assembly end) (sign byte) tt tokens.now result }
 {
     let Some((token, rest)) = tokens.split_first() else {
         return Err(grammar_fault(end));
@@ -43,15 +43,8 @@ fn sign_at<'a>(tokens: &'a [Token<'a>], end: Place, byte: u8) -> Result<&'a [Tok
     Ok(rest)
 }
 
-pub fn sign<'a>(tokens: &'a [Token<'a>], end: Place, byte: u8) -> Result<&'a [Token<'a>], ReadError>
-    ensures { PassesBy view (assembly end) (sign byte) tt tokens.now result }
-{
-    sign_at(tokens, end, byte)
-}
-
-fn line_end_at<'a>(tokens: &'a [Token<'a>], end: Place) -> Result<&'a [Token<'a>], ReadError>
-    ensures { Gives (λ x. map view x.now) result
-        (mark_at (assembly end) is_line_end (map view tokens.now)) }
+pub fn line_end<'a>(tokens: &'a [Token<'a>], end: Place) -> Result<&'a [Token<'a>], ReadError>
+    ensures { PassesBy view (assembly end) line_end tt tokens.now result }
 {
     let Some((token, rest)) = tokens.split_first() else {
         return Err(grammar_fault(end));
@@ -62,18 +55,12 @@ fn line_end_at<'a>(tokens: &'a [Token<'a>], end: Place) -> Result<&'a [Token<'a>
     Ok(rest)
 }
 
-pub fn line_end<'a>(tokens: &'a [Token<'a>], end: Place) -> Result<&'a [Token<'a>], ReadError>
-    ensures { PassesBy view (assembly end) line_end tt tokens.now result }
-{
-    line_end_at(tokens, end)
-}
-
-fn symbol_at<'a>(
+pub fn symbol<'a>(
     tokens: &'a [Token<'a>],
     end: Place,
 ) -> Result<(Symbol<'a>, &'a [Token<'a>]), ReadError>
-    ensures { Gives (λ x. (Name x.0.name.now x.0.place, tt, map view x.1.now)) result
-        (word_at (assembly end) is_symbol free name tt (map view tokens.now)) }
+    ensures { ParsesBy view (assembly end) symbol (λ s. Leaf (Name s.name.now s.place))
+        (λ _. tt) tt tokens.now result }
 {
     let Some((token, rest)) = tokens.split_first() else {
         return Err(grammar_fault(end));
@@ -88,42 +75,6 @@ fn symbol_at<'a>(
         },
         rest,
     ))
-}
-
-pub fn symbol<'a>(
-    tokens: &'a [Token<'a>],
-    end: Place,
-) -> Result<(Symbol<'a>, &'a [Token<'a>]), ReadError>
-    ensures { ParsesBy view (assembly end) symbol (λ s. Leaf (Name s.name.now s.place))
-        (λ _. tt) tt tokens.now result }
-{
-    symbol_at(tokens, end)
-}
-
-fn number_at<'a>(tokens: &'a [Token<'a>], end: Place) -> Result<(u16, &'a [Token<'a>]), ReadError>
-    ensures { Gives (λ x. (Number x.0, tt, map view x.1.now)) result
-        (word_at (assembly end) is_number free number tt (map view tokens.now)) }
-{
-    let Some((token, rest)) = tokens.split_first() else {
-        return Err(grammar_fault(end));
-    };
-    let Kind::Number(n) = token.kind else {
-        return Err(grammar_fault(token.place));
-    };
-    Ok((n, rest))
-}
-
-fn jump_at<'a>(tokens: &'a [Token<'a>], end: Place) -> Result<(u8, &'a [Token<'a>]), ReadError>
-    ensures { Gives (λ x. (Jump x.0, tt, map view x.1.now)) result
-        (word_at (assembly end) is_jump free word_meaning tt (map view tokens.now)) }
-{
-    let Some((token, rest)) = tokens.split_first() else {
-        return Err(grammar_fault(end));
-    };
-    let Role::Jump(bits) = token.role else {
-        return Err(grammar_fault(token.place));
-    };
-    Ok((bits, rest))
 }
 
 fn suits(before: Before, letter: Letter) -> bool
@@ -142,13 +93,13 @@ fn suits(before: Before, letter: Letter) -> bool
     }
 }
 
-fn letter_at<'a>(
+pub fn letter<'a>(
     tokens: &'a [Token<'a>],
     end: Place,
     before: Before,
 ) -> Result<(Letter, &'a [Token<'a>]), ReadError>
-    ensures { Gives (λ x. (Letter' x.0, tt, map view x.1.now)) result (word_at (assembly end)
-        (is_letter (suits before)) free word_meaning tt (map view tokens.now)) }
+    ensures { ParsesBy view (assembly end) (some_letter (suits before)) (λ x. Leaf (Letter' x))
+        (λ _. tt) tt tokens.now result }
 {
     let Some((token, rest)) = tokens.split_first() else {
         return Err(grammar_fault(end));
@@ -162,29 +113,30 @@ fn letter_at<'a>(
     Ok((letter, rest))
 }
 
-pub fn letter<'a>(
-    tokens: &'a [Token<'a>],
-    end: Place,
-    before: Before,
-) -> Result<(Letter, &'a [Token<'a>]), ReadError>
-    ensures { ParsesBy view (assembly end) (some_letter (suits before)) (λ x. Leaf (Letter' x))
-        (λ _. tt) tt tokens.now result }
-{
-    letter_at(tokens, end, before)
-}
-
 pub fn number<'a>(tokens: &'a [Token<'a>], end: Place) -> Result<(u16, &'a [Token<'a>]), ReadError>
     ensures { ParsesBy view (assembly end) (word is_number free number) (λ n. Leaf (Number n))
         (λ _. tt) tt tokens.now result }
 {
-    number_at(tokens, end)
+    let Some((token, rest)) = tokens.split_first() else {
+        return Err(grammar_fault(end));
+    };
+    let Kind::Number(n) = token.kind else {
+        return Err(grammar_fault(token.place));
+    };
+    Ok((n, rest))
 }
 
 pub fn jump<'a>(tokens: &'a [Token<'a>], end: Place) -> Result<(u8, &'a [Token<'a>]), ReadError>
     ensures { ParsesBy view (assembly end) (word is_jump free word_meaning) (λ n. Leaf (Jump n))
         (λ _. tt) tt tokens.now result }
 {
-    jump_at(tokens, end)
+    let Some((token, rest)) = tokens.split_first() else {
+        return Err(grammar_fault(end));
+    };
+    let Role::Jump(bits) = token.role else {
+        return Err(grammar_fault(token.place));
+    };
+    Ok((bits, rest))
 }
 
 /// A certain sign comes next.

@@ -1,13 +1,14 @@
 -- The tokens of an HDL text (book, appendix 2): words, numbers and symbols. Blanks (space, tab, line feed, return) and comments are
 -- passed over.
-use Rattle.std.specs.Prelude.{ℕ, suc, ◌-◌, Bool, List, [], ◌∷◌, Option, Some, None, Result, ◌==◌, ◌||◌, if◌then◌else◌, length, take, codes}
+use Rattle.std.specs.Prelude.{ℕ, ◌-◌, Bool, List, [], ◌∷◌, Option, Some, None, Result, ◌==◌, ◌||◌, if◌then◌else◌, length, take, codes}
 use Rattle.std.specs.Str.{bytes_eq}
 use Rattle.scan_text.specs.declared.Place.{Place}
-use Rattle.scan_text.specs.Text.{start, walk, first, front, is_digit, digits, decimal, capped_count}
+use Rattle.scan_text.specs.Text.{start, walk, first, is_digit, digits, decimal, capped_count}
 use Rattle.grammar.specs.declared.Fault.{Fault}
 use Rattle.grammar.specs.declared.Fault.TheVariants.{Grammar}
-use Rattle.grammar.specs.Cutting.{Piece, Passed, Token, Wrong, tokens_between_blanks}
-use Rattle.hdl_tree.specs.Writable.{is_letter, is_name_byte}
+use Rattle.grammar.specs.Cutting.{Piece, Passed, Wrong, tokens_between_blanks}
+use Rattle.grammar.specs.Words as words
+use Rattle.hdl_tree.specs.Writable.{is_letter}
 use Rattle.hdl_parser.specs.declared.token.Keyword.{Keyword}
 use Rattle.hdl_parser.specs.declared.token.Keyword.TheVariants as keyword
 use Rattle.hdl_parser.specs.declared.token.Kind.{Kind}
@@ -49,9 +50,12 @@ keyword_of text = keyword_spelled keywords text
 abbrev pub is_sign : ℕ → Bool
 is_sign b = b == 123 || b == 125 || b == 40 || b == 41 || b == 91 || b == 93 || b == 44 || b == 59 || b == 58 || b == 61
 
+abbrev pub made_word : Kind → List ℕ → Place → Word
+made_word kind text at = record { kind = kind; text = text; place = at }
+
 -- a token of the n + 1 bytes at the front
 abbrev pub token_of : Kind → ℕ → List ℕ → Piece Word
-token_of kind n bs = Token (λ at. record { kind = kind; text = take (suc n) bs; place = at }) n
+token_of = words.token_of made_word
 
 -- decimal digits
 abbrev pub number_piece : List ℕ → Piece Word
@@ -66,9 +70,7 @@ word_kind text = kind_of (keyword_of text)
 
 -- letters, digits and underscores, the first no digit
 abbrev pub word_piece : List ℕ → Piece Word
-word_piece bs =
-    let text = front is_name_byte bs in
-    token_of (word_kind text) (length text - 1) bs
+word_piece = words.word_of made_word word_kind
 
 abbrev pub symbol_piece : ℕ → List ℕ → Piece Word
 symbol_piece b bs = token_of (kind.Symbol b) 0 bs

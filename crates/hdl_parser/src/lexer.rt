@@ -1,29 +1,17 @@
 //! The tokens of an HDL text.
 
-ghost use Rattle.std.specs.Prelude.{◌≡◌, ◌≤◌, true, map, Some, IfOk};
-ghost use Rattle.scan_text.specs.Text.{first, front, is_digit};
+ghost use Rattle.std.specs.Prelude.{◌≡◌, true, map, Some, IfOk};
+ghost use Rattle.scan_text.specs.Text.{first, is_digit};
 ghost use Rattle.scan_text.specs.View.{left_bytes, place};
 ghost use Rattle.grammar.specs.Cutting.{TokenBy};
 ghost use Rattle.grammar.specs.Reading.{Gives};
 ghost use Rattle.hdl_parser.specs.Tokens.{view, tokens_of, finish, number_piece, word_piece, dots_piece, symbol_piece, begins_dots, is_sign};
-ghost use Rattle.hdl_tree.specs.Writable.{is_letter, is_name_byte};
+ghost use Rattle.hdl_tree.specs.Writable.{is_letter};
 
 use crate::token::{Keyword, Kind, Token};
-use grammar::{Cutter, Fault, ReadError, cut_between_blanks};
+use grammar::{Cutter, Fault, ReadError, cut_between_blanks, is_letter, is_name_byte};
 use scan_text::{Place, Scan};
 use std::alloc::Global;
-
-fn is_letter(byte: u8) -> bool
-    ensures { result ≡ is_letter byte }
-{
-    byte.is_ascii_alphabetic() || byte == b'_'
-}
-
-fn is_name_byte(byte: u8) -> bool
-    ensures { result ≡ is_name_byte byte }
-{
-    is_letter(byte) || byte.is_ascii_digit()
-}
 
 fn is_sign(byte: u8) -> bool
     ensures { result ≡ is_sign byte }
@@ -43,11 +31,8 @@ fn number<'a>(scan: &mut Scan<'a>, byte: u8) -> Result<Token<'a>, Fault>
     let mut ahead = *scan;
     let n = ahead.number().unwrap_or(0);
     let text = scan.take_while(|b| b.is_ascii_digit());
-    Ok(Token {
-        kind: Kind::Number(n),
-        text,
-        place,
-    })
+    let kind = Kind::Number(n);
+    Ok(Token { kind, text, place })
 }
 
 // A keyword or a name.

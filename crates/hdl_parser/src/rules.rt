@@ -62,7 +62,7 @@ fn pin_list<'a>(
     ensures shorter { IfOk result (λ r. length r.1.now < length tokens.now) }
     ensures some { IfOk result (λ r. 1 ≤ length r.0) }
 {
-    let mut pins = List::new(alloc);
+    let mut pins = Vec::new(alloc);
     let (first, after_first) = pin(alloc, tokens, end)?;
     pins.push(first)?;
     let mut rest = after_first;
@@ -72,7 +72,7 @@ fn pin_list<'a>(
         pins.push(one)?;
         rest = after;
     }
-    Ok((pins, rest))
+    Ok((List::of(pins), rest))
 }
 
 // The pins after this keyword, if it comes.
@@ -87,7 +87,7 @@ fn pins<'a>(
     ensures no_longer { IfOk result (λ r. length r.1.now ≤ length tokens.now) }
 {
     if !keyword_stands(tokens, word) {
-        return Ok((List::new(alloc), tokens));
+        return Ok((List::of(Vec::new(alloc)), tokens));
     }
     let rest = keyword(tokens, end, word)?;
     let (pins, rest) = pin_list(alloc, rest, end)?;
@@ -107,7 +107,7 @@ fn name_list<'a>(
     ensures shorter { IfOk result (λ r. length r.1.now < length tokens.now) }
     ensures some { IfOk result (λ r. 1 ≤ length r.0) }
 {
-    let mut names = List::new(alloc);
+    let mut names = Vec::new(alloc);
     let (first, after_first) = name(alloc, tokens, end)?;
     names.push(first)?;
     let mut rest = after_first;
@@ -117,7 +117,7 @@ fn name_list<'a>(
         names.push(one)?;
         rest = after;
     }
-    Ok((names, rest))
+    Ok((List::of(names), rest))
 }
 
 // The names after `CLOCKED`, if it comes.
@@ -132,7 +132,7 @@ fn clocked<'a>(
     ensures no_longer { IfOk result (λ r. length r.1.now ≤ length tokens.now) }
 {
     if !keyword_stands(tokens, Keyword::Clocked) {
-        return Ok((List::new(alloc), tokens));
+        return Ok((List::of(Vec::new(alloc)), tokens));
     }
     let rest = keyword(tokens, end, Keyword::Clocked)?;
     let (names, rest) = name_list(alloc, rest, end)?;
@@ -268,7 +268,7 @@ fn connections<'a>(
         (λ _. 0) 0 tokens.now result }
     ensures shorter { IfOk result (λ r. length r.1.now < length tokens.now) }
 {
-    let mut connections = List::new(alloc);
+    let mut connections = Vec::new(alloc);
     let (first, after_first) = connection(alloc, tokens, end)?;
     connections.push(first)?;
     let mut rest = after_first;
@@ -278,7 +278,7 @@ fn connections<'a>(
         connections.push(one)?;
         rest = after;
     }
-    Ok((connections, rest))
+    Ok((List::of(connections), rest))
 }
 
 #[tactic(auto, using(crate::proofs::Exits::hdl_exits))]
@@ -308,9 +308,9 @@ fn part_list<'a>(
         (λ _. 0) 0 tokens.now result }
     ensures no_longer { IfOk result (λ r. length r.1.now ≤ length tokens.now) }
 {
-    let mut parts = List::new(alloc);
+    let mut parts = Vec::new(alloc);
     if !name_stands(tokens) {
-        return Ok((parts, tokens));
+        return Ok((List::of(parts), tokens));
     }
     let (first, after_first) = part(alloc, tokens, end)?;
     parts.push(first)?;
@@ -320,7 +320,7 @@ fn part_list<'a>(
         parts.push(one)?;
         rest = after;
     }
-    Ok((parts, rest))
+    Ok((List::of(parts), rest))
 }
 
 // `PARTS`, a colon and the parts.

@@ -42,13 +42,10 @@ pub fn symbol<'a>(
     let Some((token, rest)) = tokens.split_first() else {
         return Err(grammar_fault(end));
     };
-    let Kind::Symbol(other) = token.kind else {
-        return Err(grammar_fault(token.place));
-    };
-    if other != sign {
-        return Err(grammar_fault(token.place));
+    match token.kind {
+        Kind::Symbol(other) if other == sign => Ok(rest),
+        _ => Err(grammar_fault(token.place)),
     }
-    Ok(rest)
 }
 
 pub fn keyword<'a>(
@@ -62,13 +59,9 @@ pub fn keyword<'a>(
     let Some((token, rest)) = tokens.split_first() else {
         return Err(grammar_fault(end));
     };
-    let Kind::Keyword(other) = token.kind else {
-        return Err(grammar_fault(token.place));
-    };
-    if other == keyword {
-        Ok(rest)
-    } else {
-        Err(grammar_fault(token.place))
+    match token.kind {
+        Kind::Keyword(other) if other == keyword => Ok(rest),
+        _ => Err(grammar_fault(token.place)),
     }
 }
 

@@ -8,7 +8,8 @@ use Rattle.std.proofs.lemmas.Str.{IsAscii-append}
 use Rattle.std.proofs.lemmas.Bool.Decides.{nat_tests}
 use Rattle.scan_text.specs.Text.{first, front, is_digit}
 use Rattle.scan_text.proofs.Texts.{take_front}
-use Rattle.jack_lexer.specs.Tokens.{is_name_byte, is_text_byte}
+use Rattle.grammar.specs.Words.{is_name_byte}
+use Rattle.jack_lexer.specs.Tokens.{is_text_byte}
 
 name_small : (b : ℕ) → is_name_byte b ≡ true → b < 128
 name_small b e = grind (arith, nat_tests, e)

@@ -21,7 +21,8 @@ use Rattle.grammar.proofs.Bytes.{contained, contains}
 use Rattle.grammar.proofs.Blanks.{letter_is, name_run, is_name_run, begins_none, none_begins, passing_begins, longest_past_blanks}
 use Rattle.jack_tree.specs.declared.token.Kind.TheVariants as kind
 use Rattle.jack_tree.specs.Tokens.{Word}
-use Rattle.jack_lexer.specs.Tokens.{piece, token_of, number_piece, word_piece, symbol_piece, text_piece, is_letter, is_name_byte, is_sign, is_text_byte}
+use Rattle.grammar.specs.Words.{is_letter, is_name_byte}
+use Rattle.jack_lexer.specs.Tokens.{piece, token_of, number_piece, word_piece, symbol_piece, text_piece, is_sign, is_text_byte}
 use Rattle.jack_lexer.specs.OneToken.{IsInText, IsOne, AWord, AnInteger, ASymbol, AString}
 
 -- the pieces that are left when the tests before them fail

@@ -13,7 +13,8 @@ use Rattle.jack_tree.specs.declared.token.Keyword as keywords
 use Rattle.jack_tree.specs.declared.token.Kind.{Kind}
 use Rattle.jack_tree.specs.declared.token.Kind.TheVariants.{Identifier, Integer, Keyword}
 use Rattle.jack_tree.specs.Tokens.{Word}
-use Rattle.jack_lexer.specs.Tokens.{token_of, number_piece, word_piece, kind_of, word_kind, is_letter, is_name_byte}
+use Rattle.grammar.specs.Words.{is_letter, is_name_byte}
+use Rattle.jack_lexer.specs.Tokens.{token_of, number_piece, word_piece, kind_of, word_kind}
 
 -- a token of a whole run
 run_taken : (test : ℕ → Bool) (kind : Kind) (old new : Scan) (b : ℕ) (w : Word) → first (left_bytes old) ≡ Some b → test b ≡ true → left_bytes new ≡ rest_behind test (left_bytes old) → place new ≡ walk (place old) (front test (left_bytes old)) → w.kind ≡ kind → w.text ≡ front test (left_bytes old) → w.place ≡ place old → Next (token_of kind (length (front test (left_bytes old)) - 1) (left_bytes old)) old (Ok (Some w)) new

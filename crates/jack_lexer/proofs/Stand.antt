@@ -16,7 +16,8 @@ use Rattle.grammar.proofs.Cuts.{within_limit, followed_is, none_is}
 use Rattle.jack_tree.specs.declared.token.Kind.TheVariants.{Integer, Text}
 use Rattle.jack_tree.specs.declared.token.Token as declared
 use Rattle.jack_tree.specs.Tokens.{Word, view, StandIn}
-use Rattle.jack_lexer.specs.Tokens.{piece, close, tokens_of, token_of, word_piece, symbol_piece, number_piece, text_piece, is_letter, is_sign, is_text_byte}
+use Rattle.grammar.specs.Words.{is_letter}
+use Rattle.jack_lexer.specs.Tokens.{piece, close, tokens_of, token_of, word_piece, symbol_piece, number_piece, text_piece, is_sign, is_text_byte}
 
 walk-append : (at : Place) (g h : List ℕ) → walk (walk at g) h ≡ walk at (g ++ h)
 walk-append at [] h = refl

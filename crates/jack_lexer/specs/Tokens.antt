@@ -1,22 +1,17 @@
 -- How a Jack text is cut into tokens (book, chapter 10). Blanks (space, tab, line feed, return) and comments are passed over.
-use Rattle.std.specs.Prelude.{ℕ, suc, ◌+◌, ◌-◌, Bool, true, false, List, Option, Some, None, Result, ◌==◌, ◌||◌, ◌&&◌, if◌then◌else◌, length, drop, take, nat_le, nat_lt, min}
-use Rattle.std.specs.Char.{is_ascii_alphabetic}
+use Rattle.std.specs.Prelude.{ℕ, ◌+◌, ◌-◌, Bool, true, false, List, Option, Some, None, Result, ◌==◌, ◌||◌, ◌&&◌, if◌then◌else◌, length, drop, nat_le, nat_lt, min}
 use Rattle.scan_text.specs.declared.Place.{Place}
 use Rattle.scan_text.specs.Text.{start, walk, first, front, is_digit, digits, decimal, capped_count}
 use Rattle.scan_text.specs.Blanks.{starts}
 use Rattle.grammar.specs.declared.Fault.{Fault}
 use Rattle.grammar.specs.declared.Fault.TheVariants.{Grammar, Range}
-use Rattle.grammar.specs.Cutting.{Piece, Passed, Token, Wrong, closes_with_nothing, tokens_between_blanks}
+use Rattle.grammar.specs.Cutting.{Piece, Passed, Wrong, closes_with_nothing, tokens_between_blanks}
+use Rattle.grammar.specs.Words as words
+use Rattle.grammar.specs.Words.{is_letter}
 use Rattle.jack_tree.specs.declared.token.Keyword.{Keyword}
 use Rattle.jack_tree.specs.declared.token.Kind.{Kind}
 use Rattle.jack_tree.specs.declared.token.Kind.TheVariants as kind
 use Rattle.jack_tree.specs.Tokens.{Word, keyword_of}
-
-abbrev pub is_letter : ℕ → Bool
-is_letter b = is_ascii_alphabetic b || b == 95
-
-abbrev pub is_name_byte : ℕ → Bool
-is_name_byte b = is_letter b || is_digit b
 
 abbrev pub is_quote : ℕ → Bool
 is_quote b = b == 34
@@ -32,9 +27,12 @@ is_sign b =
     || b == 43 || b == 45 || b == 42 || b == 47 || b == 38 || b == 124 || b == 60 || b == 62 || b == 61 || b == 126
     || b == 94 || b == 35
 
+abbrev pub made_word : Kind → List ℕ → Place → Word
+made_word kind text at = record { kind = kind; text = text; place = at }
+
 -- a token of the n + 1 bytes at the front
 abbrev pub token_of : Kind → ℕ → List ℕ → Piece Word
-token_of kind n bs = Token (λ at. record { kind = kind; text = take (suc n) bs; place = at }) n
+token_of = words.token_of made_word
 
 -- decimal digits, at most 32,767
 abbrev pub number_piece : List ℕ → Piece Word
@@ -51,9 +49,7 @@ word_kind text = kind_of (keyword_of text)
 
 -- letters, digits and underscores, the first no digit
 abbrev pub word_piece : List ℕ → Piece Word
-word_piece bs =
-    let text = front is_name_byte bs in
-    token_of (word_kind text) (length text - 1) bs
+word_piece = words.word_of made_word word_kind
 
 abbrev pub symbol_piece : ℕ → List ℕ → Piece Word
 symbol_piece b bs = token_of (kind.Symbol b) 0 bs

@@ -6,24 +6,13 @@ ghost use Rattle.scan_text.specs.View.{left_bytes, place};
 ghost use Rattle.grammar.specs.Cutting.{TokenBy};
 ghost use Rattle.grammar.specs.Reading.{Gives};
 ghost use Rattle.jack_tree.specs.Tokens.{view, StandIn};
-ghost use Rattle.jack_lexer.specs.Tokens.{tokens_of, finish, number_piece, word_piece, text_piece, symbol_piece, is_letter, is_name_byte, is_text_byte, is_sign};
+ghost use Rattle.grammar.specs.Words.{is_letter};
+ghost use Rattle.jack_lexer.specs.Tokens.{tokens_of, finish, number_piece, word_piece, text_piece, symbol_piece, is_text_byte, is_sign};
 
-use grammar::{Cutter, Fault, ReadError, cut_between_blanks};
+use grammar::{Cutter, Fault, ReadError, cut_between_blanks, is_letter, is_name_byte};
 use jack_tree::{Keyword, Kind, Token};
 use scan_text::{Place, Scan};
 use std::alloc::Global;
-
-fn is_letter(byte: u8) -> bool
-    ensures { result ≡ is_letter byte }
-{
-    byte.is_ascii_alphabetic() || byte == b'_'
-}
-
-fn is_name_byte(byte: u8) -> bool
-    ensures { result ≡ is_name_byte byte }
-{
-    is_letter(byte) || byte.is_ascii_digit()
-}
 
 // A byte that may stand in a string.
 fn is_text_byte(byte: u8) -> bool
@@ -73,11 +62,8 @@ fn number<'a>(scan: &mut Scan<'a>, byte: u8) -> Result<Token<'a>, Fault>
         return Err(Fault::Range(place, n.min(1_000_000_000)));
     }
     let text = scan.take_while(|b| b.is_ascii_digit());
-    Ok(Token {
-        kind: Kind::Integer(n as u16),
-        text,
-        place,
-    })
+    let kind = Kind::Integer(n as u16);
+    Ok(Token { kind, text, place })
 }
 
 // A keyword or an identifier.
@@ -176,12 +162,10 @@ impl<'a> Cutter<'a> for JackTokens {
         if is_sign(byte) {
             return symbol(scan, byte);
         }
-        if byte.is_ascii_digit() {
-            return number(scan, byte);
+        match byte {
+            b'0'..=b'9' => number(scan, byte),
+            b'"' => quoted(scan),
+            _ => Err(Fault::Grammar(scan.place())),
         }
-        if byte == b'"' {
-            return quoted(scan);
-        }
-        Err(Fault::Grammar(scan.place()))
     }
 }

@@ -16,7 +16,7 @@ use Rattle.jack_parser.specs.declared.counts.Counts.{Counts}
 use Rattle.jack_parser.specs.declared.words.Start.TheVariants as starts
 use Rattle.jack_parser.specs.Grammar as grammar
 use Rattle.jack_parser.specs.Grammar.{jack, Said, Fixed, Placed, JackRule, expression, term, opens, placed_word, fixed_word, operates, negates, is_identifier, is_symbol, symbol_of, is_constant, constant_by, constant_said, check_constant, string_size, without_quotes, one_more, fresh, nested_rule, term_opens, free}
-use Rattle.jack_parser.specs.Starts.{start_by, start_of}
+use Rattle.jack_parser.specs.Inner.Starts.{start_by, start_of}
 use Rattle.jack_parser.specs.Spelling.{Tokens, Says, text_by, operator_tokens, sign_tokens, constant_tokens, expression_tokens, operations_tokens, term_tokens, arguments_tokens, further_tokens}
 use Rattle.jack_parser.specs.Limits.{IsShort, count_of, KeepsIn, OperationsKeepIn, TermKeepsIn, ArgumentsKeepIn, ExpressionsKeepIn}
 use Rattle.jack_parser.proofs.Terms.{constant_term, variable_term, group_term, negation_term}

@@ -8,7 +8,7 @@ use Rattle.grammar.proofs.Exits.{exits}
 use Rattle.jack_parser.specs.declared.counts.Counts.{Counts}
 use Rattle.jack_parser.specs.declared.words.Start.TheVariants as starts
 use Rattle.jack_tree.specs.Tokens.{Word}
-use Rattle.jack_parser.specs.Starts.{start_of}
+use Rattle.jack_parser.specs.Inner.Starts.{start_of}
 use Rattle.jack_parser.specs.Grammar.{jack, Part, Said, term, group, negation, variable, constant, expression, rule_of}
 use Rattle.jack_parser.proofs.StatementRules.{let_read, let_halts, if_read, if_halts, while_read, while_halts, do_read, do_halts, return_read, return_halts}
 use Rattle.jack_parser.proofs.Terms.{group_term, group_stops, negation_term, negation_stops, variable_term, variable_stops, constant_term, constant_stops}

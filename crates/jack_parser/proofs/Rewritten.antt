@@ -8,7 +8,8 @@ use Rattle.jack_tree.specs.declared.token.Kind.{Kind}
 use Rattle.jack_tree.specs.declared.token.Kind.TheVariants as kind
 use Rattle.jack_tree.specs.Tokens.{Word}
 use Rattle.jack_tree.specs.Syntax.{Class}
-use Rattle.jack_lexer.specs.Tokens.{tokens_of, finish, kind_of, is_text_byte, is_name_byte}
+use Rattle.grammar.specs.Words.{is_name_byte}
+use Rattle.jack_lexer.specs.Tokens.{tokens_of, finish, kind_of, is_text_byte}
 use Rattle.jack_parser.specs.Grammar.{jack, Said, Fixed, Placed, fresh, whole}
 use Rattle.jack_parser.specs.Spelling.{Tokens, Says, Say, text_by, class_tokens}
 use Rattle.jack_parser.specs.Limits.{KeepsLimits}

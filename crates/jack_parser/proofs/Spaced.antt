@@ -1,7 +1,7 @@
 -- The text of a token with a blank after it is cut as that token again.
 use Rattle.std.proofs.Common.{◌≡◌, ℕ, zero, suc, ◌+◌, ◌-◌, ◌≤◌, Bool, true, false, cond, List, [], ◌∷◌, ◌++◌, map, length, take, drop, append_assoc, length-append, Ok, Option, Some, None, refl, sym, ap, subst, ◌∙◌, arith}
 use Rattle.std.specs.Prelude as prelude
-use Rattle.std.specs.Prelude.{min, nat_lt, ◌==◌, ◌||◌, codes, if◌then◌else◌}
+use Rattle.std.specs.Prelude.{min, nat_lt, ◌==◌, ◌||◌, codes}
 use Rattle.std.specs.List.{flat_map}
 use Rattle.std.specs.Str.{bytes_eq}
 use Rattle.std.proofs.lemmas.Bool.{le-ltb, ltb-false}
@@ -16,13 +16,14 @@ use Rattle.grammar.specs.declared.Fault.TheVariants.{Grammar, Range}
 use Rattle.grammar.specs.Cutting.{Piece, Token, Wrong, past_blank}
 use Rattle.grammar.proofs.Runs.{run_text}
 use Rattle.grammar.proofs.Spaced as spaced
-use Rattle.grammar.proofs.Spaced.{All, all_every, all_front, front_all, differs, no_blank, no_comment, symbol_alone, gap, gap_fails, drop_none, drop_length, front_taken, less_one, Digits, digits_of, Each, GoodPiece, good_if}
+use Rattle.grammar.proofs.Spaced.{All, all_every, front_all, differs, no_blank, no_comment, gap, gap_fails, drop_none, drop_length, front_taken, less_one, Digits, digits_of, plain, plain_is, plain_digits, letter_names, named_front, Each, GoodPiece, good_if}
 use Rattle.jack_tree.specs.declared.token.Keyword.{Keyword}
 use Rattle.jack_tree.specs.declared.token.Keyword.TheVariants as keyword
 use Rattle.jack_tree.specs.declared.token.Kind.{Kind}
 use Rattle.jack_tree.specs.declared.token.Kind.TheVariants as kind
 use Rattle.jack_tree.specs.Tokens.{Word, keyword_text, keyword_of}
-use Rattle.jack_lexer.specs.Tokens.{piece, tokens_of, token_of, number_piece, word_piece, symbol_piece, text_piece, is_letter, is_name_byte, is_text_byte, is_sign, kind_of, word_kind}
+use Rattle.grammar.specs.Words.{is_letter, is_name_byte}
+use Rattle.jack_lexer.specs.Tokens.{piece, made_word, tokens_of, token_of, number_piece, word_piece, symbol_piece, text_piece, is_text_byte, is_sign, kind_of, word_kind}
 use Rattle.jack_parser.specs.Grammar.{without_quotes}
 use Rattle.grammar.specs.Printed.{set_off}
 use Rattle.jack_parser.specs.Printed.{shown_word}
@@ -42,48 +43,19 @@ all_taken is (suc k) [] zero le = tt
 all_taken is (suc k) [] (suc m) le = tt
 all_taken is (suc k) (b ∷ bs) m le = taken_by is b m k bs (is b) refl (λ n h. all_taken is k bs n h) le
 
--- a token of these bytes
-abbrev made : Kind → List ℕ → Place → Word
-made k text at = record { kind = k; text = text; place = at }
-
-token_is : (k k' : Kind) (n n' : ℕ) (bs text : List ℕ) → k ≡ k' → n ≡ n' → take (suc n') bs ≡ text → token_of k n bs ≡ Token (made k' text) n'
-token_is k k' n n' bs text ek en et = (λ i. token_of (ek i) (en i) bs) ∙ (λ i. Token (made k' (et i)) n')
-
 abbrev piece_is : ℕ → List ℕ → Bool → Bool → Bool → Bool → Piece Word
 piece_is b all letter sign digit quote = cond letter (word_piece all) (cond sign (symbol_piece b all) (cond digit (number_piece all) (cond quote (text_piece all) (Wrong Grammar))))
 
 -- names and keywords
-pub record Named (text : List ℕ) (k : Kind) : Type 0 where
-  pub first : ℕ
-  pub more : List ℕ
-  pub is : text ≡ first ∷ more
-  pub letter : is_letter first ≡ true
-  pub names : All is_name_byte more
-  pub kind : word_kind text ≡ k
-
-letter_names : (b : ℕ) → is_letter b ≡ true → is_name_byte b ≡ true
-letter_names b e = rw e refl
+abbrev pub Named : List ℕ → Kind → Type 0
+Named = spaced.Named word_kind
 
 -- how a token's text stands before a blank
 abbrev Cut : Kind → List ℕ → Bool → List ℕ → Type 0
-Cut k text t rest = spaced.Stands piece (made k text) text t rest
+Cut k text t rest = spaced.Stands piece (made_word k text) text t rest
 
 named_cut : (k : Kind) (text : List ℕ) → Named text k → (t : Bool) (rest : List ℕ) → Cut k text t rest
-named_cut k text h t rest =
-    let b = h.first in
-    let w = h.more in
-    let all = b ∷ (w ++ gap t ∷ rest) in
-    let run : front is_name_byte all ≡ b ∷ w = front_all is_name_byte (b ∷ w) (gap t) rest (letter_names b h.letter, h.names) (gap_fails is_name_byte refl refl t) in
-    let other : blank all ≡ Other = no_comment b (w ++ gap t ∷ rest) (no_blank is_letter b h.letter refl refl refl refl) (differs is_letter b 47 h.letter refl) in
-    let token : word_piece all ≡ Token (made k text) (length w) =
-    token_is (word_kind (front is_name_byte all)) k (length (front is_name_byte all) - 1) (length w) all text
-    (ap word_kind (run ∙ sym h.is) ∙ h.kind) (ap (λ (l : List ℕ). length l - 1) run ∙ less_one b w) (front_taken b w (gap t ∷ rest) ∙ sym h.is) in
-    record {
-      first = b;
-      more = w;
-      is = h.is;
-      cut_so = ap (λ (x : Blank). past_blank x (piece all)) other ∙ ap (λ (x : Bool). piece_is b all x (is_sign b) (is_digit b) (b == 34)) h.letter ∙ token;
-    }
+named_cut = spaced.named_cut piece made_word word_kind (λ b bs letter. ap (λ (x : Bool). piece_is b (b ∷ bs) x (is_sign b) (is_digit b) (b == 34)) letter)
 
 keyword_named : (k : Keyword) → Named (keyword_text k) (kind.Keyword k)
 keyword_named keyword.Class = record { first = 99; more = codes "lass"; is = refl; letter = refl; names = all_every is_name_byte (codes "lass") refl; kind = refl }
@@ -110,44 +82,23 @@ keyword_named keyword.Return = record { first = 114; more = codes "eturn"; is = 
 
 -- symbols
 symbol_cut : (b : ℕ) → is_letter b ≡ false → is_sign b ≡ true → (t : Bool) (rest : List ℕ) → Cut (kind.Symbol b) (b ∷ []) t rest
-symbol_cut b l s t rest =
-    let all = b ∷ gap t ∷ rest in
-    let other : blank all ≡ Other = symbol_alone b t rest (no_blank is_sign b s refl refl refl refl) in
-    record {
-      first = b;
-      more = [];
-      is = refl;
-      cut_so = ap (λ (x : Blank). past_blank x (piece all)) other ∙ ap (λ (x : Bool). piece_is b all x (is_sign b) (is_digit b) (b == 34)) l ∙ ap (λ (x : Bool). piece_is b all false x (is_digit b) (b == 34)) s;
-    }
+symbol_cut b l s =
+    spaced.symbol_cut piece made_word (kind.Symbol b) b (no_blank is_sign b s refl refl refl refl)
+    (λ bs. ap (λ (x : Bool). piece_is b (b ∷ bs) x (is_sign b) (is_digit b) (b == 34)) l ∙ ap (λ (x : Bool). piece_is b (b ∷ bs) false x (is_digit b) (b == 34)) s)
 
 -- integers
-abbrev plain : ℕ → Bool
-plain b = if is_letter b then false else (if is_sign b then false else is_digit b)
-
-plain_by : (x y z : Bool) → cond x false (cond y false z) ≡ true → (x ≡ false) × (y ≡ false) × (z ≡ true)
-plain_by true y z e = absurd cc
-plain_by false true z e = absurd cc
-plain_by false false z e = (refl, refl, e)
-
-plain_is : (b : ℕ) → plain b ≡ true → (is_letter b ≡ false) × (is_sign b ≡ false) × (is_digit b ≡ true)
-plain_is b e = plain_by (is_letter b) (is_sign b) (is_digit b) e
-
-plain_digits : (ds : List ℕ) → All plain ds → All is_digit ds
-plain_digits [] a = tt
-plain_digits (d ∷ ds) a = ((plain_is d a.0).2, plain_digits ds a.1)
-
-digits_cut : (n : ℕ) → n ≤ 32767 → (ds : List ℕ) → Digits plain n ds → (t : Bool) (rest : List ℕ) → Cut (kind.Integer n) ds t rest
+digits_cut : (n : ℕ) → n ≤ 32767 → (ds : List ℕ) → Digits (plain is_sign) n ds → (t : Bool) (rest : List ℕ) → Cut (kind.Integer n) ds t rest
 digits_cut n h [] d t rest = absurd (let some = d.some in omega (arith, some))
 digits_cut n h (b ∷ w) d t rest =
     let all = b ∷ (w ++ gap t ∷ rest) in
-    let facts = plain_is b d.all.0 in
-    let run : digits all ≡ b ∷ w = front_all is_digit (b ∷ w) (gap t) rest (plain_digits (b ∷ w) d.all) (gap_fails is_digit refl refl t) in
+    let facts = plain_is is_sign b d.all.0 in
+    let run : digits all ≡ b ∷ w = front_all is_digit (b ∷ w) (gap t) rest (plain_digits is_sign (b ∷ w) d.all) (gap_fails is_digit refl refl t) in
     let value : capped_count (decimal 0 (digits all)) ≡ n = ap (λ (l : List ℕ). capped_count (decimal 0 l)) run ∙ ap capped_count d.value ∙ min-eq_left (omega arith) in
-    let other : blank all ≡ Other = no_comment b (w ++ gap t ∷ rest) (no_blank plain b d.all.0 refl refl refl refl) (differs plain b 47 d.all.0 refl) in
+    let other : blank all ≡ Other = no_comment b (w ++ gap t ∷ rest) (no_blank (plain is_sign) b d.all.0 refl refl refl refl) (differs (plain is_sign) b 47 d.all.0 refl) in
     let fits : nat_lt 32767 n ≡ false = le-ltb _ _ h in
-    let token : token_of (kind.Integer n) (length (digits all) - 1) all ≡ Token (made (kind.Integer n) (b ∷ w)) (length w) =
-    token_is (kind.Integer n) (kind.Integer n) (length (digits all) - 1) (length w) all (b ∷ w) refl (ap (λ (l : List ℕ). length l - 1) run ∙ less_one b w) (front_taken b w (gap t ∷ rest)) in
-    let number : number_piece all ≡ Token (made (kind.Integer n) (b ∷ w)) (length w) =
+    let token : token_of (kind.Integer n) (length (digits all) - 1) all ≡ Token (made_word (kind.Integer n) (b ∷ w)) (length w) =
+    spaced.token_is made_word (kind.Integer n) (kind.Integer n) (length (digits all) - 1) (length w) all (b ∷ w) refl (ap (λ (l : List ℕ). length l - 1) run ∙ less_one b w) (front_taken b w (gap t ∷ rest)) in
+    let number : number_piece all ≡ Token (made_word (kind.Integer n) (b ∷ w)) (length w) =
     (λ i. cond (nat_lt 32767 (value i)) (Wrong (λ at. Range at (min (value i) 1000000000))) (token_of (kind.Integer (value i)) (length (digits all) - 1) all))
     ∙ ap (λ (x : Bool). cond x (Wrong (λ at. Range at (min n 1000000000))) (token_of (kind.Integer n) (length (digits all) - 1) all)) fits ∙ token in
     record {
@@ -178,7 +129,7 @@ string_cut u a t rest =
       is = refl;
       cut_so = (λ i. cond (starts 34 (drop (long i) all)) (token_of kind.Text (long i) all) (Wrong Grammar))
           ∙ ap (λ (x : Bool). cond x (token_of kind.Text (length w) all) (Wrong Grammar)) closes
-          ∙ token_is kind.Text kind.Text (length w) (length w) all (quoted u) refl refl (front_taken 34 w (gap t ∷ rest));
+          ∙ spaced.token_is made_word kind.Text kind.Text (length w) (length w) all (quoted u) refl refl (front_taken 34 w (gap t ∷ rest));
     }
 
 pub unquoted_quoted : (u : List ℕ) → without_quotes (quoted u) ≡ u
@@ -194,10 +145,10 @@ Good (kind.Integer n) text = n ≤ 32767
 Good kind.Text text = All is_text_byte (without_quotes text)
 Good kind.Identifier text = Named text kind.Identifier
 
-cut_again : (k : Kind) (text : List ℕ) (at : Place) → Good k text → (t : Bool) (rest : List ℕ) → Cut k (shown_word (made k text at)) t rest
+cut_again : (k : Kind) (text : List ℕ) (at : Place) → Good k text → (t : Bool) (rest : List ℕ) → Cut k (shown_word (made_word k text at)) t rest
 cut_again (kind.Keyword k) text at g t rest = named_cut (kind.Keyword k) (keyword_text k) (keyword_named k) t rest
 cut_again (kind.Symbol b) text at g t rest = symbol_cut b g.0 g.1 t rest
-cut_again (kind.Integer n) text at g t rest = digits_cut n g (prelude.decimal n) (digits_of plain refl n (omega (arith, g))) t rest
+cut_again (kind.Integer n) text at g t rest = digits_cut n g (prelude.decimal n) (digits_of (plain is_sign) refl n (omega (arith, g))) t rest
 cut_again kind.Text text at g t rest = string_cut (without_quotes text) g t rest
 cut_again kind.Identifier text at g t rest = named_cut kind.Identifier text g t rest
 
@@ -210,7 +161,7 @@ told_by k text = []
 abbrev pub told : Word → Kind × List ℕ
 told w = (w.kind, told_by w.kind w.text)
 
-told_again : (k : Kind) (text : List ℕ) (at : Place) → told_by k (shown_word (made k text at)) ≡ told_by k text
+told_again : (k : Kind) (text : List ℕ) (at : Place) → told_by k (shown_word (made_word k text at)) ≡ told_by k text
 told_again (kind.Keyword k) text at = refl
 told_again (kind.Symbol b) text at = refl
 told_again (kind.Integer n) text at = refl
@@ -225,16 +176,15 @@ AllGood ws = Each GoodWord ws
 
 -- the tokens of a text are such tokens
 
-good_kind : (text : List ℕ) (b : ℕ) (more : List ℕ) → text ≡ b ∷ more → is_letter b ≡ true → All is_name_byte more → (o : Option Keyword) → keyword_of text ≡ o → Good (kind_of o) text
-good_kind text b more e l a None k = record { first = b; more = more; is = e; letter = l; names = a; kind = ap kind_of k }
-good_kind text b more e l a (Some w) k = tt
+good_kind : (text : List ℕ) → Named text (word_kind text) → (o : Option Keyword) → keyword_of text ≡ o → Good (kind_of o) text
+good_kind text n None k = record { first = n.first; more = n.more; is = n.is; letter = n.letter; names = n.names; kind = ap kind_of k }
+good_kind text n (Some w) k = tt
 
 good_word : (b : ℕ) (bs : List ℕ) → is_letter b ≡ true → GoodPiece GoodWord (word_piece (b ∷ bs))
 good_word b bs l at =
     let text = front is_name_byte (b ∷ bs) in
-    let whole : text ≡ b ∷ front is_name_byte bs = ap (λ (t : Bool). cond t (b ∷ front is_name_byte bs) []) (letter_names b l) in
     subst (λ (x : List ℕ). Good (word_kind text) x) (sym (run_text is_name_byte (b ∷ bs) b refl (letter_names b l)))
-    (good_kind text b (front is_name_byte bs) whole l (all_front is_name_byte bs) (keyword_of text) refl)
+    (good_kind text (named_front word_kind b bs l) (keyword_of text) refl)
 
 good_string : (b : ℕ) (bs : List ℕ) → GoodPiece GoodWord (text_piece (b ∷ bs))
 good_string b bs =
@@ -270,5 +220,5 @@ good_tokens text ts e = spaced.good_tokens GoodWord piece good_piece text ts e
 -- the printed form of such tokens
 pub printed_good : (ts : List Word) → AllGood ts → length (flat_map set_off (map shown_word ts)) ≤ 1048576 → (us : List Word) × (tokens_of (flat_map set_off (map shown_word ts)) ≡ Ok us) × (map told us ≡ map told ts)
 printed_good ts good small =
-    spaced.printed_good piece GoodWord shown_word (λ text. bytes_eq text (codes "{") || (bytes_eq text (codes "}") || bytes_eq text (codes ";"))) (λ w at. made w.kind (shown_word w) at) told
+    spaced.printed_good piece GoodWord shown_word (λ text. bytes_eq text (codes "{") || (bytes_eq text (codes "}") || bytes_eq text (codes ";"))) (λ w at. made_word w.kind (shown_word w) at) told
     (λ w g t rest. cut_again w.kind w.text w.place g t rest) (λ w at. ap (λ (x : List ℕ). (w.kind, x)) (told_again w.kind w.text at)) ts good small

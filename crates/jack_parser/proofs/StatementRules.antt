@@ -8,7 +8,7 @@ use Rattle.grammar.proofs.Exits.{halt_left}
 use Rattle.grammar.proofs.Entered.{skip, halt_skip}
 use Rattle.jack_tree.specs.Tokens.{Word}
 use Rattle.jack_parser.specs.declared.counts.Counts.{Counts}
-use Rattle.jack_parser.specs.Starts.{Lets, Ifs, Whiles, Does, Returns}
+use Rattle.jack_parser.specs.Inner.Starts.{Lets, Ifs, Whiles, Does, Returns}
 use Rattle.jack_parser.specs.Grammar.{jack, Part, Said, JackRule, any_statement, let_rule, if_rule, while_rule, do_rule, return_rule}
 
 abbrev R : Place → Counts → JackRule → List Word → Tree Said → Counts → List Word → Type 0

@@ -14,7 +14,7 @@ use Rattle.jack_parser.specs.declared.counts.Counts.{Counts}
 use Rattle.jack_parser.specs.declared.words.Start.{Start}
 use Rattle.jack_parser.specs.declared.words.Start.TheVariants as starts
 use Rattle.jack_parser.specs.Grammar.{jack, Part, Said, term, constant, variable, group, negation, stands_for, is_value, names, sign_is, any_sign, is_unary, is_constant, is_identifier, is_symbol, negates, JackRule}
-use Rattle.jack_parser.specs.Starts.{start_by, start_of}
+use Rattle.jack_parser.specs.Inner.Starts.{start_by, start_of}
 
 -- what a start says of the tests
 abbrev Says : Start → Kind → Type 0

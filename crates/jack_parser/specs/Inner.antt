@@ -1,3 +1,4 @@
 pub mod Bodies
 pub mod Written
 pub mod Long
+pub mod Starts

@@ -1,5 +1,4 @@
 pub mod Grammar
-pub mod Starts
 pub mod Trees
 pub mod StatementTrees
 pub mod ClassTrees

@@ -8,7 +8,8 @@ use Rattle.jack_tree.specs.declared.tree.Class as code
 use Rattle.jack_tree.specs.Tokens.{Word, keyword_of}
 use Rattle.jack_tree.specs.Syntax.{Class}
 use Rattle.jack_tree.specs.Seen.{the_class}
-use Rattle.jack_lexer.specs.Tokens.{tokens_of, is_letter, is_name_byte, is_text_byte, is_sign}
+use Rattle.grammar.specs.Words.{is_letter, is_name_byte}
+use Rattle.jack_lexer.specs.Tokens.{tokens_of, is_text_byte, is_sign}
 use Rattle.jack_parser.specs.Grammar.{Said, Fixed, Placed}
 use Rattle.jack_parser.specs.Spelling.{Tokens, text_by, class_tokens}
 use Rattle.jack_parser.specs.Limits.{KeepsLimits}

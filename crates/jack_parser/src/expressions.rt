@@ -5,7 +5,7 @@ ghost use Rattle.grammar.specs.Reading.{ParsesBy, PassesBy, Halt};
 ghost use Rattle.grammar.specs.Rules.{name, Node};
 ghost use Rattle.jack_tree.specs.Tokens.{view};
 ghost use Rattle.jack_parser.specs.Grammar.{jack, expression, term, nested_rule, arguments, argument, group, call, invocation_rule};
-ghost use Rattle.jack_parser.specs.Starts.{start_of};
+ghost use Rattle.jack_parser.specs.Inner.Starts.{start_of};
 ghost use Rattle.jack_parser.specs.Trees.{term_tree, exp_tree, args_tree, argument_tree, called_tree, invoked_tree, group_tree, call_said, name_said};
 
 use crate::counts::{Counted, Counts, count, deeper};

@@ -5,7 +5,7 @@ ghost use Rattle.grammar.specs.Reading.{ParsesBy, PassesBy, Halt};
 ghost use Rattle.grammar.specs.Rules.{name, option, repeat};
 ghost use Rattle.jack_tree.specs.Tokens.{view};
 ghost use Rattle.jack_parser.specs.Grammar.{jack, expression, statement, subscript, block, any_statement, else_rule};
-ghost use Rattle.jack_parser.specs.Starts.{Lets, Ifs, Whiles, Does, Returns};
+ghost use Rattle.jack_parser.specs.Inner.Starts.{Lets, Ifs, Whiles, Does, Returns};
 ghost use Rattle.jack_parser.specs.StatementTrees.{index_tree, value_tree, any_tree, statement_tree, statements_tree, block_tree, else_tree};
 
 use crate::counts::{Counts, deeper};

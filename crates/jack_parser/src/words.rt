@@ -8,7 +8,7 @@ ghost use Rattle.std.specs.Str.{IsAscii};
 ghost use Rattle.grammar.specs.Reading.{ParsesBy, PassesBy};
 ghost use Rattle.grammar.specs.Rules.{Leaf, next, here};
 ghost use Rattle.jack_parser.specs.Grammar.{jack, is_symbol, is_keyword, is_identifier, is_constant, free, check_constant, named_word, placed_word, fixed_word, constant_said, identifier, constant, operator, unary, key, symbol_at, Placed, operates, negates, term_opens, statement_opens, count, counted_name, Said, symbol_of, keyword_of, is_operator, is_unary, without_quotes};
-ghost use Rattle.jack_parser.specs.Starts.{start_of};
+ghost use Rattle.jack_parser.specs.Inner.Starts.{start_of};
 ghost use Rattle.jack_parser.specs.Trees.{name_said, operator_said, operator_byte, sign_said, sign_byte, constant_leaf_said, IsString};
 
 use crate::counts::{Counted, Counts, count};

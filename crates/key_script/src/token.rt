@@ -1,4 +1,4 @@
-use scan_text::Place;
+use grammar::{LineKind, Placed};
 
 /// What a token is.
 #[derive(Clone, Copy)]
@@ -7,9 +7,24 @@ pub enum Kind {
     LineEnd,
 }
 
-/// A token, and the place where it begins.
-#[derive(Clone, Copy)]
-pub struct Token {
-    pub kind: Kind,
-    pub place: Place,
+impl LineKind for Kind {
+    ghost use Rattle.key_script.specs.Tokens.{piece, is_line_end};
+    ghost use Rattle.key_script.specs.declared.token.Kind.TheVariants.{LineEnd};
+
+    ghost piece = { piece };
+
+    ghost line_end_kind = { LineEnd };
+
+    ghost is_line_end = { is_line_end };
+
+    fn line_end() -> Kind {
+        Kind::LineEnd
+    }
+
+    fn is_line_end(self) -> bool {
+        matches!(self, Kind::LineEnd)
+    }
 }
+
+/// A token, and the place where it begins.
+pub type Token = Placed<Kind>;

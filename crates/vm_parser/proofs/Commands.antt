@@ -13,7 +13,7 @@ use Rattle.vm_parser.specs.declared.token.Role.TheVariants as role
 use Rattle.vm_parser.specs.Tokens.{Word, ends_line}
 use Rattle.vm_parser.specs.Grammar.{Said, Part, vm, greatest, same_word, operation_role, operation, push, pop, label, goto, if_goto, call, returns, command, line}
 use Rattle.vm_parser.specs.Trees.{VmTree}
-use Rattle.vm_parser.specs.Reading.{role_next, begins_command, begins_line}
+use Rattle.vm_parser.specs.Inner.Reading.{role_next, begins_command, begins_line}
 use Rattle.grammar.proofs.Entered.{skip, halt_skip}
 
 abbrev pub R : Place → Part → List Word → VmTree → List Word → Type 0

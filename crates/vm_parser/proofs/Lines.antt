@@ -7,7 +7,7 @@ use Rattle.grammar.specs.declared.ReadError.{ReadError}
 use Rattle.grammar.specs.Reading.{Halt}
 use Rattle.grammar.specs.Rules.{Stops}
 use Rattle.vm_tree.specs.declared.command.Line.{Line}
-use Rattle.vm_parser.specs.Reading.{ReadsAs}
+use Rattle.vm_parser.specs.Inner.Reading.{ReadsAs}
 use Rattle.scan_text.specs.declared.Place.{Place}
 use Rattle.grammar.specs.Rules.{repeat, enters, Skip, NoMore, More, Reads}
 use Rattle.grammar.proofs.Continues.{Continues, go_on_as, done}

@@ -9,7 +9,7 @@ use Rattle.vm_tree.specs.declared.program.File.{File}
 use Rattle.vm_parser.specs.Tokens.{Word, tokens_of, finish}
 use Rattle.vm_parser.specs.Grammar.{vm, whole, greatest}
 use Rattle.vm_parser.specs.Trees.{file_tree, file_of, Spells, Refuses}
-use Rattle.vm_parser.specs.Reading.{ReadsAllAs}
+use Rattle.vm_parser.specs.Inner.Reading.{ReadsAllAs}
 
 module _ (bare : Bool) (name text : List ℕ) (end : Place) (ts us : List Word) (cut : tokens_of text ≡ Ok us) (seen : ts ≡ us) (at : end ≡ finish text) where
   pub found_by : (f : File) → ReadsAllAs (file_tree bare) (file_of bare name) end (whole bare) ts (Ok f) → Spells bare name text (f ∷ [])

@@ -2,7 +2,6 @@ pub mod Roles
 pub mod Tokens
 pub mod Grammar
 pub mod Trees
-pub mod Reading
 pub mod Printed
 pub mod OneToken
 pub mod Language

@@ -232,20 +232,16 @@ impl<'a> LineToken for Token<'a> {
 
 impl<'a> LineCutter<'a> for Token<'a> {
     fn next(scan: &mut Scan<'a>, byte: u8) -> Result<Option<Token<'a>>, Fault> {
-        if byte == b' ' || byte == b'\t' {
-            scan.skip(1);
-            return Ok(None);
+        match byte {
+            b' ' | b'\t' => {
+                scan.skip(1);
+                Ok(None)
+            }
+            b'0'..=b'9' => number(scan, byte),
+            _ if begins_name(byte) => word(scan, byte),
+            b'/' => comment(scan),
+            _ => line_end(scan),
         }
-        if byte.is_ascii_digit() {
-            return number(scan, byte);
-        }
-        if begins_name(byte) {
-            return word(scan, byte);
-        }
-        if byte == b'/' {
-            return comment(scan);
-        }
-        line_end(scan)
     }
 }
 

@@ -8,7 +8,7 @@ ghost use Rattle.vm_tree.specs.Printed.{program_text};
 ghost use Rattle.vm_parser.specs.Tokens.{view};
 ghost use Rattle.vm_parser.specs.Grammar.{vm, whole, greatest};
 ghost use Rattle.vm_parser.specs.Trees.{file_tree, file_of, Spells, Refuses};
-ghost use Rattle.vm_parser.specs.Reading.{ReadsAllAs};
+ghost use Rattle.vm_parser.specs.Inner.Reading.{ReadsAllAs};
 ghost use Rattle.vm_parser.specs.Printed.{all, file_can};
 
 use crate::lexer::tokens;

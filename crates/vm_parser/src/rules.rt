@@ -6,7 +6,7 @@ ghost use Rattle.grammar.specs.Rules.{Leaf, Pair, Skip, next};
 ghost use Rattle.vm_parser.specs.Tokens.{view};
 ghost use Rattle.vm_parser.specs.Grammar.{vm, Number, location, push, pop, label, goto, if_goto, call, command, line, is_keyword, lines, function, functions, opening, greatest};
 ghost use Rattle.vm_parser.specs.Trees.{location_tree, name_tree, command_tree, line_tree, lines_tree, commands, function_tree, function_of, functions_tree, opening_tree, opening_of};
-ghost use Rattle.vm_parser.specs.Reading.{ReadsAs, begins_line, begins_command};
+ghost use Rattle.vm_parser.specs.Inner.Reading.{ReadsAs, begins_line, begins_command};
 
 use crate::token::{Kind, Role, Token};
 use crate::words::{

@@ -1,11 +1,12 @@
 //! Readers of one token of a VM text.
+#![tactic(auto, using(grammar::proofs::OneToken::one_token))]
 
 ghost use Rattle.std.specs.Prelude.{◌≡◌, map};
-ghost use Rattle.grammar.specs.Reading.{ParsesBy, PassesBy, Gives, word_at, mark_at};
+ghost use Rattle.grammar.specs.Reading.{ParsesBy, PassesBy};
 ghost use Rattle.grammar.specs.Rules.{Leaf, next, here};
 ghost use Rattle.vm_parser.specs.Tokens.{view};
-ghost use Rattle.vm_parser.specs.Grammar.{vm, Operation', Segment', Name', Number, same_word, keyword, is_keyword, is_line_end, line_end, is_name, name, free, name_said, is_number, number, number_said, is_operation, operation, word_meaning, may_come, is_segment, segment_rule, with_most, most_of, within_most, index, greatest};
-ghost use Rattle.vm_parser.specs.Reading.{role_next};
+ghost use Rattle.vm_parser.specs.Grammar.{vm, Operation', Segment', Name', Number, same_word, keyword, is_line_end, line_end, name, number, operation, may_come, segment_rule, most_of, index, greatest};
+ghost use Rattle.vm_parser.specs.Inner.Reading.{role_next};
 
 use crate::token::{Kind, Role, Token};
 use grammar::{Fault, ReadError};
@@ -36,13 +37,13 @@ fn same_word(a: Role, b: Role) -> bool
     }
 }
 
-fn keyword_at<'a>(
+/// The word of a command.
+pub fn keyword<'a>(
     tokens: &'a [Token<'a>],
     end: Place,
     role: Role,
 ) -> Result<&'a [Token<'a>], ReadError>
-    ensures { Gives (λ x. map view x.now) result
-        (mark_at (vm end) (is_keyword role) (map view tokens.now)) }
+    ensures { PassesBy view (vm end) (keyword role) greatest tokens.now result }
 {
     let Some((token, rest)) = tokens.split_first() else {
         return Err(grammar_fault(end));
@@ -53,20 +54,8 @@ fn keyword_at<'a>(
     Ok(rest)
 }
 
-/// The word of a command.
-pub fn keyword<'a>(
-    tokens: &'a [Token<'a>],
-    end: Place,
-    role: Role,
-) -> Result<&'a [Token<'a>], ReadError>
-    ensures { PassesBy view (vm end) (keyword role) greatest tokens.now result }
-{
-    keyword_at(tokens, end, role)
-}
-
-fn line_end_at<'a>(tokens: &'a [Token<'a>], end: Place) -> Result<&'a [Token<'a>], ReadError>
-    ensures { Gives (λ x. map view x.now) result
-        (mark_at (vm end) is_line_end (map view tokens.now)) }
+pub fn line_end<'a>(tokens: &'a [Token<'a>], end: Place) -> Result<&'a [Token<'a>], ReadError>
+    ensures { PassesBy view (vm end) line_end greatest tokens.now result }
 {
     let Some((token, rest)) = tokens.split_first() else {
         return Err(grammar_fault(end));
@@ -77,34 +66,7 @@ fn line_end_at<'a>(tokens: &'a [Token<'a>], end: Place) -> Result<&'a [Token<'a>
     Ok(rest)
 }
 
-pub fn line_end<'a>(tokens: &'a [Token<'a>], end: Place) -> Result<&'a [Token<'a>], ReadError>
-    ensures { PassesBy view (vm end) line_end greatest tokens.now result }
-{
-    line_end_at(tokens, end)
-}
-
-fn text_at<'a>(tokens: &'a [Token<'a>], end: Place) -> Result<(&'a str, &'a [Token<'a>]), ReadError>
-    ensures { Gives (λ x. (Name' x.0.now, greatest, map view x.1.now)) result
-        (word_at (vm end) is_name free name_said greatest (map view tokens.now)) }
-{
-    let Some((token, rest)) = tokens.split_first() else {
-        return Err(grammar_fault(end));
-    };
-    let Kind::Name = token.kind else {
-        return Err(grammar_fault(token.place));
-    };
-    Ok((token.text, rest))
-}
-
-fn text<'a>(tokens: &'a [Token<'a>], end: Place) -> Result<(&'a str, &'a [Token<'a>]), ReadError>
-    ensures { ParsesBy view (vm end) name (λ n. Leaf (Name' n.now))
-        (λ _. greatest) greatest tokens.now result }
-{
-    text_at(tokens, end)
-}
-
 /// A name.
-#[tactic(auto, using(crate::proofs::Exits::vm_exits))]
 pub fn name<'a>(
     alloc: Global,
     tokens: &'a [Token<'a>],
@@ -113,14 +75,18 @@ pub fn name<'a>(
     ensures { ParsesBy view (vm end) name (λ n. Leaf (Name' n))
         (λ _. greatest) greatest tokens.now result }
 {
-    let (text, rest) = text(tokens, end)?;
-    let name = Name::new(alloc, text)?;
-    Ok((name, rest))
+    let Some((token, rest)) = tokens.split_first() else {
+        return Err(grammar_fault(end));
+    };
+    let Kind::Name = token.kind else {
+        return Err(grammar_fault(token.place));
+    };
+    Ok((Name::new(alloc, token.text)?, rest))
 }
 
-fn number_at<'a>(tokens: &'a [Token<'a>], end: Place) -> Result<(u16, &'a [Token<'a>]), ReadError>
-    ensures { Gives (λ x. (Number x.0, greatest, map view x.1.now)) result
-        (word_at (vm end) is_number free number_said greatest (map view tokens.now)) }
+pub fn number<'a>(tokens: &'a [Token<'a>], end: Place) -> Result<(u16, &'a [Token<'a>]), ReadError>
+    ensures { ParsesBy view (vm end) number (λ n. Leaf (Number n))
+        (λ _. greatest) greatest tokens.now result }
 {
     let Some((token, rest)) = tokens.split_first() else {
         return Err(grammar_fault(end));
@@ -131,19 +97,12 @@ fn number_at<'a>(tokens: &'a [Token<'a>], end: Place) -> Result<(u16, &'a [Token
     Ok((n, rest))
 }
 
-pub fn number<'a>(tokens: &'a [Token<'a>], end: Place) -> Result<(u16, &'a [Token<'a>]), ReadError>
-    ensures { ParsesBy view (vm end) number (λ n. Leaf (Number n))
-        (λ _. greatest) greatest tokens.now result }
-{
-    number_at(tokens, end)
-}
-
-fn operation_at<'a>(
+pub fn operation<'a>(
     tokens: &'a [Token<'a>],
     end: Place,
 ) -> Result<(Operation, &'a [Token<'a>]), ReadError>
-    ensures { Gives (λ x. (Operation' x.0, greatest, map view x.1.now)) result
-        (word_at (vm end) is_operation free word_meaning greatest (map view tokens.now)) }
+    ensures { ParsesBy view (vm end) operation (λ o. Leaf (Operation' o))
+        (λ _. greatest) greatest tokens.now result }
 {
     let Some((token, rest)) = tokens.split_first() else {
         return Err(grammar_fault(end));
@@ -152,16 +111,6 @@ fn operation_at<'a>(
         return Err(grammar_fault(token.place));
     };
     Ok((operation, rest))
-}
-
-pub fn operation<'a>(
-    tokens: &'a [Token<'a>],
-    end: Place,
-) -> Result<(Operation, &'a [Token<'a>]), ReadError>
-    ensures { ParsesBy view (vm end) operation (λ o. Leaf (Operation' o))
-        (λ _. greatest) greatest tokens.now result }
-{
-    operation_at(tokens, end)
 }
 
 fn may_come(constant: bool, segment: Segment) -> bool
@@ -173,13 +122,14 @@ fn may_come(constant: bool, segment: Segment) -> bool
     }
 }
 
-fn segment_at<'a>(
+/// A segment, `constant` only where it may come.
+pub fn segment<'a>(
     tokens: &'a [Token<'a>],
     end: Place,
     constant: bool,
 ) -> Result<(Segment, &'a [Token<'a>]), ReadError>
-    ensures { Gives (λ x. (Segment' x.0, most_of x.0, map view x.1.now)) result (word_at (vm end)
-        (is_segment constant) with_most word_meaning greatest (map view tokens.now)) }
+    ensures { ParsesBy view (vm end) (segment_rule constant)
+        (λ g. Leaf (Segment' g)) most_of greatest tokens.now result }
 {
     let Some((token, rest)) = tokens.split_first() else {
         return Err(grammar_fault(end));
@@ -193,18 +143,6 @@ fn segment_at<'a>(
     Ok((segment, rest))
 }
 
-/// A segment, `constant` only where it may come.
-pub fn segment<'a>(
-    tokens: &'a [Token<'a>],
-    end: Place,
-    constant: bool,
-) -> Result<(Segment, &'a [Token<'a>]), ReadError>
-    ensures { ParsesBy view (vm end) (segment_rule constant)
-        (λ g. Leaf (Segment' g)) most_of greatest tokens.now result }
-{
-    segment_at(tokens, end, constant)
-}
-
 /// The greatest index of a segment.
 pub fn most_of(segment: Segment) -> u16
     ensures { result ≡ most_of segment }
@@ -216,13 +154,14 @@ pub fn most_of(segment: Segment) -> u16
     }
 }
 
-fn index_at<'a>(
+/// An index of at most `most`.
+pub fn index<'a>(
     tokens: &'a [Token<'a>],
     end: Place,
     most: u16,
 ) -> Result<(u16, &'a [Token<'a>]), ReadError>
-    ensures { Gives (λ x. (Number x.0, greatest, map view x.1.now)) result
-        (word_at (vm end) is_number within_most number_said most (map view tokens.now)) }
+    ensures { ParsesBy view (vm end) index (λ n. Leaf (Number n))
+        (λ _. greatest) most tokens.now result }
 {
     let Some((token, rest)) = tokens.split_first() else {
         return Err(grammar_fault(end));
@@ -234,18 +173,6 @@ fn index_at<'a>(
         return Err(ReadError::Fault(Fault::Range(token.place, n as u32)));
     }
     Ok((n, rest))
-}
-
-/// An index of at most `most`.
-pub fn index<'a>(
-    tokens: &'a [Token<'a>],
-    end: Place,
-    most: u16,
-) -> Result<(u16, &'a [Token<'a>]), ReadError>
-    ensures { ParsesBy view (vm end) index (λ n. Leaf (Number n))
-        (λ _. greatest) most tokens.now result }
-{
-    index_at(tokens, end, most)
 }
 
 /// What the next token can be in a command.

@@ -1,7 +1,7 @@
 -- A text of more than 1,048,576 bytes is refused, without a place.
 use Rattle.std.specs.Prelude.{◌<◌, ℕ, List, Err, length, refl}
 use Rattle.std.proofs.Common.{inr}
-use Rattle.scan_text.specs.declared.Place.{Place}
+use Rattle.scan_text.specs.Text.{nowhere}
 use Rattle.grammar.specs.Cutting.{too_long}
 use Rattle.source_files.specs.Inner.Long.{refused_long}
 use Rattle.source_files.specs.Sources.{past_limit}
@@ -15,9 +15,6 @@ use Rattle.hack_asm.specs.Tokens.{finish}
 use Rattle.hack_asm.specs.declared.fault.AsmFault.TheVariants as asm
 use Rattle.hack_asm.specs.declared.language.Form.{Form}
 use Rattle.hack_asm.specs.declared.language.Form.TheVariants.{Assembly, Image}
-
-abbrev pub nowhere : Place
-nowhere = record { line = 0; column = 0 }
 
 no_assembly : (text : List ℕ) → 1048576 < length text → Means text (Err (wrong too_long))
 no_assembly text long = inr (too_long, refused_long (assembly (finish text)) whole tt _ text long, refl)

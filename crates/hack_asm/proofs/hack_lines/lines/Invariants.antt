@@ -1,7 +1,7 @@
 use Rattle.std.proofs.Common.{length, ℕ, Option}
 use Rattle.grammar.proofs.Repeats.{Along}
 use Rattle.hack_asm.specs.declared.hack_tokens.Kind.{Kind}
-use Rattle.hack_asm.specs.declared.hack_tokens.Token.{Token}
+use Rattle.hack_asm.specs.HackTokens.{Word as Token}
 use Rattle.hack_asm.specs.HackText.{hack, line, line_tree, AreLines}
 use Rattle.hack_asm.proofs.hack_lines.lines.Given as goal
 

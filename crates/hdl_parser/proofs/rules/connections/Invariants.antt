@@ -8,9 +8,9 @@ use Rattle.hdl_parser.proofs.rules.connections.Given as goal
 
 abbrev pub invariant-more : goal.invariant-more
 invariant-more l = record {
-  so_far : Continues Word ℕ (Unit {0}) Said (hdl l.end) (row connection) 0 (map view l.tokens) (row_with connection_tree l.connections) (repeat (next_of connection)) 0 (map view l.rest);
+  so_far : Continues Word ℕ (Unit {0}) Said (hdl l.end) (row connection) 0 (map view l.tokens) (row_with connection_tree l.connections.items) (repeat (next_of connection)) 0 (map view l.rest);
   shorter : length l.rest < length l.tokens;
-  some : 1 ≤ length l.connections;
+  some : 1 ≤ length l.connections.items;
 }
 
 abbrev pub decreases-more : goal.decreases-more

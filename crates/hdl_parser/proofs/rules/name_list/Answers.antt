@@ -8,7 +8,7 @@ use Rattle.hdl_parser.proofs.Rows.{row_with-push}
 use Rattle.hdl_parser.proofs.rules.name_list.Goals as goal
 
 pub more-init : goal.more-init
-more-init c = rw (c.in_ok-push.ensures.ok, c.new-names.ensures) record {
+more-init c = rw (c.in_ok-push.ensures.items, c.new-names.ensures.items) record {
   so_far = begun_seq c.in_ok-first.ensures.reads;
   shorter = c.in_ok-first.ensures.shorter;
   some = omega arith;
@@ -25,11 +25,11 @@ returns-in_err-one-clause-reads c =
     rw (p.1, p.2) (halt_more c.more.invariant.so_far (sym c.stands.ensures ∙ c.more-test.true) (halt_second c.in_ok-after_comma.ensures.reads c.in_err-one.ensures.reads))
 
 pub more-preserved : goal.more-preserved
-more-preserved c = rw c.in_ok-push-2.ensures.ok record {
-  so_far = go_on_as _ (λ y. sym (row_with-push name_leaf c.more.names c.in_ok-one.one y c.more.invariant.some)) c.more.invariant.so_far (sym c.stands.ensures ∙ c.more-test.true) (both c.in_ok-after_comma.ensures.reads c.in_ok-one.ensures.reads);
+more-preserved c = rw c.in_ok-push-2.ensures.items record {
+  so_far = go_on_as _ (λ y. sym (row_with-push name_leaf c.more.names.items c.in_ok-one.one y c.more.invariant.some)) c.more.invariant.so_far (sym c.stands.ensures ∙ c.more-test.true) (both c.in_ok-after_comma.ensures.reads c.in_ok-one.ensures.reads);
   shorter = omega (arith, c.in_ok-one.ensures.shorter, c.in_ok-after_comma.ensures.shorter, c.more.invariant.shorter);
-  some = omega (arith, c.more.invariant.some, length-append c.more.names (c.in_ok-one.one ∷ []));
+  some = omega (arith, c.more.invariant.some, length-append c.more.names.items (c.in_ok-one.one ∷ []));
 }
 
 pub returns-clause-reads : goal.returns-clause-reads
-returns-clause-reads c = done c.more.invariant.so_far (sym c.stands.ensures ∙ c.more-test.false)
+returns-clause-reads c = rw c.of.ensures (done c.more.invariant.so_far (sym c.stands.ensures ∙ c.more-test.false))

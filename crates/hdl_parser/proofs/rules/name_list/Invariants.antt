@@ -8,9 +8,9 @@ use Rattle.hdl_parser.proofs.rules.name_list.Given as goal
 
 abbrev pub invariant-more : goal.invariant-more
 invariant-more l = record {
-  so_far : Continues Word ℕ (Unit {0}) Said (hdl l.end) (row name) 0 (map view l.tokens) (row_with name_leaf l.names) (repeat (next_of name)) 0 (map view l.rest);
+  so_far : Continues Word ℕ (Unit {0}) Said (hdl l.end) (row name) 0 (map view l.tokens) (row_with name_leaf l.names.items) (repeat (next_of name)) 0 (map view l.rest);
   shorter : length l.rest < length l.tokens;
-  some : 1 ≤ length l.names;
+  some : 1 ≤ length l.names.items;
 }
 
 abbrev pub decreases-more : goal.decreases-more

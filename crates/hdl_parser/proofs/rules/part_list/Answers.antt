@@ -8,7 +8,7 @@ use Rattle.hdl_parser.specs.Trees.{part_tree}
 use Rattle.hdl_parser.proofs.rules.part_list.Goals as goal
 
 pub returns-then-not-name_stands-clause-reads : goal.returns-then-not-name_stands-clause-reads
-returns-then-not-name_stands-clause-reads c = rw c.new-parts.ensures (ended (sym c.if-not-name_stands.ensures))
+returns-then-not-name_stands-clause-reads c = rw (c.of.ensures, c.new-parts.ensures.items) (ended (sym c.if-not-name_stands.ensures))
 
 pub returns-in_err-first-clause-reads : goal.returns-in_err-first-clause-reads
 returns-in_err-first-clause-reads c =
@@ -16,7 +16,7 @@ returns-in_err-first-clause-reads c =
     rw (p.1, p.2) (halt_repeat (sym c.if-not-name_stands.ensures) c.in_err-first.ensures.reads)
 
 pub all-init : goal.all-init
-all-init c = rw (c.in_ok-push.ensures.ok, c.new-parts.ensures) record {
+all-init c = rw (c.in_ok-push.ensures.items, c.new-parts.ensures.items) record {
   along = Along-more (hdl c.args.end) part part_tree _ _ [] _ _ _ _ _ (Along-start (hdl c.args.end) part part_tree _ _ [] refl) (sym c.if-not-name_stands.ensures) c.in_ok-first.ensures.reads;
   no_longer = omega (arith, c.in_ok-first.ensures.shorter);
 }
@@ -27,10 +27,10 @@ returns-in_err-one-clause-reads c =
     rw (p.1, p.2) (Along-halts (hdl c.args.end) part part_tree _ _ _ _ _ _ c.all.invariant.along (sym c.name_stands-in-all.ensures ∙ c.all-test.true) c.in_err-one.ensures.reads)
 
 pub all-preserved : goal.all-preserved
-all-preserved c = rw c.in_ok-push-2.ensures.ok record {
+all-preserved c = rw c.in_ok-push-2.ensures.items record {
   along = Along-more (hdl c.args.end) part part_tree _ _ _ _ _ _ _ _ c.all.invariant.along (sym c.name_stands-in-all.ensures ∙ c.all-test.true) c.in_ok-one.ensures.reads;
   no_longer = omega (arith, c.in_ok-one.ensures.shorter, c.all.invariant.no_longer);
 }
 
 pub returns-clause-reads : goal.returns-clause-reads
-returns-clause-reads c = Along-ended (hdl c.args.end) part part_tree _ _ _ _ _ c.all.invariant.along (sym c.name_stands-in-all.ensures ∙ c.all-test.false)
+returns-clause-reads c = rw c.of-2.ensures (Along-ended (hdl c.args.end) part part_tree _ _ _ _ _ c.all.invariant.along (sym c.name_stands-in-all.ensures ∙ c.all-test.false))

@@ -8,7 +8,7 @@ use Rattle.hdl_parser.proofs.rules.part_list.Given as goal
 
 abbrev pub invariant-all : goal.invariant-all
 invariant-all l = record {
-  along : Along Word ℕ (Unit {0}) Said Part (hdl l.end) part part_tree 0 (map view l.tokens) l.parts 0 (map view l.rest);
+  along : Along Word ℕ (Unit {0}) Said Part (hdl l.end) part part_tree 0 (map view l.tokens) l.parts.items 0 (map view l.rest);
   no_longer : length l.rest ≤ length l.tokens;
 }
 

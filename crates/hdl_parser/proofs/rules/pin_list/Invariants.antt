@@ -8,9 +8,9 @@ use Rattle.hdl_parser.proofs.rules.pin_list.Given as goal
 
 abbrev pub invariant-more : goal.invariant-more
 invariant-more l = record {
-  so_far : Continues Word ℕ (Unit {0}) Said (hdl l.end) (row pin) 0 (map view l.tokens) (row_with pin_tree l.pins) (repeat (next_of pin)) 0 (map view l.rest);
+  so_far : Continues Word ℕ (Unit {0}) Said (hdl l.end) (row pin) 0 (map view l.tokens) (row_with pin_tree l.pins.items) (repeat (next_of pin)) 0 (map view l.rest);
   shorter : length l.rest < length l.tokens;
-  some : 1 ≤ length l.pins;
+  some : 1 ≤ length l.pins.items;
 }
 
 abbrev pub decreases-more : goal.decreases-more

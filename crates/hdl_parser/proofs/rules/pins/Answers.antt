@@ -7,7 +7,7 @@ use Rattle.hdl_parser.proofs.Rows.{listing_tree-some}
 use Rattle.hdl_parser.proofs.rules.pins.Goals as goal
 
 pub returns-then-not-keyword_stands-clause-reads : goal.returns-then-not-keyword_stands-clause-reads
-returns-then-not-keyword_stands-clause-reads c = rw c.new.ensures (passed (sym c.if-not-keyword_stands.ensures))
+returns-then-not-keyword_stands-clause-reads c = rw (c.of.ensures, c.new.ensures.items) (passed (sym c.if-not-keyword_stands.ensures))
 
 pub returns-in_err-rest-clause-reads : goal.returns-in_err-rest-clause-reads
 returns-in_err-rest-clause-reads c =

@@ -1,6 +1,7 @@
 use Rattle.scan_text.specs.View.{left_bytes}
 use Rattle.std.proofs.Common.{rules, ap, ◌∙◌}
-use Rattle.jack_lexer.specs.Tokens.{is_name_byte, kind_of, word_kind}
+use Rattle.grammar.specs.Words.{is_name_byte}
+use Rattle.jack_lexer.specs.Tokens.{kind_of, word_kind}
 use Rattle.jack_lexer.proofs.Pieces.{kind_told, word_taken}
 use Rattle.jack_lexer.proofs.Ascii.{name_ascii}
 use Rattle.jack_lexer.proofs.lexer.word.Goals as goal

@@ -1,6 +1,6 @@
 use Rattle.std.proofs.Common.{◌≡◌, length, ℕ, true}
 use Rattle.grammar.proofs.Repeats.{Along}
-use Rattle.key_script.specs.declared.token.Token.{Token}
+use Rattle.key_script.specs.Tokens.{Word as Token}
 use Rattle.key_script.specs.declared.lines.Line.{Line}
 use Rattle.key_script.specs.declared.token.Kind.{Kind}
 use Rattle.key_script.specs.Codes.{are_rising}

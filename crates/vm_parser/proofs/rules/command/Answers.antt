@@ -4,7 +4,7 @@ use Rattle.grammar.specs.Rules.{left}
 use Rattle.grammar.specs.Reading.{fault}
 use Rattle.grammar.proofs.Exits.{halt_left}
 use Rattle.vm_parser.specs.Grammar.{operation_role}
-use Rattle.vm_parser.specs.Reading.{begins_command}
+use Rattle.vm_parser.specs.Inner.Reading.{begins_command}
 use Rattle.vm_parser.proofs.Commands.{operation_entered, push_read, push_halt, pop_read, pop_halt, label_read, label_halt, goto_read, goto_halt, if_goto_read, if_goto_halt, call_read, call_halt, return_read, return_halt, no_role, no_command}
 use Rattle.vm_parser.proofs.rules.command.Goals as goal
 

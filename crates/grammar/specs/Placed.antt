@@ -1,0 +1,7 @@
+-- Tokens that are a kind and a place.
+use Rattle.scan_text.specs.declared.Place.{Place}
+use Rattle.grammar.specs.declared.lines.Placed.{Placed}
+
+-- a token of a kind, at a place
+abbrev pub placed : {K : Type 0} → K → Place → Placed K
+placed kind at = record { kind = kind; place = at }
