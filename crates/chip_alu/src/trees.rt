@@ -4,8 +4,8 @@ ghost use Rattle.chip_basic.specs.Hdl.{each};
 ghost use Rattle.chip_alu.specs.Trees.{half_adder_tree, full_adder_tree, add_bit, add16_tree, inc16_tree, alu_inputs, alu_output, alu_test, alu_tree, shift_tree};
 
 use chip_basic::{
-    Link, Row, add_part, bit_constant, bit_wire_bit, bits_wire_bits, bus, chip, numbered, parts_of,
-    pin, wire, wire_bit,
+    Link, Row, add_part, bit_constant, bit_wire_bit, bits_wire_bits, bus, chip, numbered_name,
+    parts_of, pin, wire, wire_bit,
 };
 use hdl_tree::{Chip, List, Part};
 use std::alloc::{AllocError, Global};
@@ -91,12 +91,12 @@ pub fn full_adder_tree(alloc: Global) -> Result<Chip, AllocError>
 }
 
 // The part of one bit above the lowest.
-fn add_full_adder(alloc: Global, parts: &mut List<Part>, bit: u8) -> Result<(), AllocError>
+fn add_full_adder(alloc: Global, parts: &mut Vec<Part>, bit: u8) -> Result<(), AllocError>
     requires { bit < 16 }
-    ensures { IfOk result (λ _. parts.new ≡ parts.old ++ add_bit bit ∷ []) }
+    ensures { IfOk result (λ _. parts.new.items ≡ parts.old.items ++ add_bit bit ∷ []) }
 {
-    let carry_in = numbered(alloc, b"carry", bit)?;
-    let carry_out = numbered(alloc, b"carry", bit + 1)?;
+    let carry_in = numbered_name(alloc, b"carry", bit)?;
+    let carry_out = numbered_name(alloc, b"carry", bit + 1)?;
     add_part(
         alloc,
         parts,
@@ -113,8 +113,8 @@ fn add_full_adder(alloc: Global, parts: &mut List<Part>, bit: u8) -> Result<(), 
 }
 
 // The parts of the bits above the lowest, after those that are there.
-fn add_full_adders(alloc: Global, parts: &mut List<Part>) -> Result<(), AllocError>
-    ensures { IfOk result (λ _. parts.new ≡ parts.old ++ each 15 (λ i. add_bit (suc i))) }
+fn add_full_adders(alloc: Global, parts: &mut Vec<Part>) -> Result<(), AllocError>
+    ensures { IfOk result (λ _. parts.new.items ≡ parts.old.items ++ each 15 (λ i. add_bit (suc i))) }
 {
     for below in 0..15 {
         add_full_adder(alloc, parts, below + 1)?;
@@ -127,7 +127,7 @@ fn add_full_adders(alloc: Global, parts: &mut List<Part>) -> Result<(), AllocErr
 pub fn add16_tree(alloc: Global) -> Result<Chip, AllocError>
     ensures { IfOk result (λ chip. chip ≡ add16_tree) }
 {
-    let mut parts = List::new(alloc);
+    let mut parts = Vec::new(alloc);
     add_part(
         alloc,
         &mut parts,
@@ -145,7 +145,7 @@ pub fn add16_tree(alloc: Global) -> Result<Chip, AllocError>
         b"Add16",
         &[bus(b"a", 16), bus(b"b", 16)],
         &[bus(b"out", 16)],
-        parts,
+        List::of(parts),
     )
 }
 
@@ -154,7 +154,7 @@ pub fn add16_tree(alloc: Global) -> Result<Chip, AllocError>
 pub fn inc16_tree(alloc: Global) -> Result<Chip, AllocError>
     ensures { IfOk result (λ chip. chip ≡ inc16_tree) }
 {
-    let mut parts = List::new(alloc);
+    let mut parts = Vec::new(alloc);
     add_part(
         alloc,
         &mut parts,
@@ -170,7 +170,7 @@ pub fn inc16_tree(alloc: Global) -> Result<Chip, AllocError>
         b"Inc16",
         &[bus(b"in", 16)],
         &[bus(b"out", 16)],
-        parts,
+        List::of(parts),
     )
 }
 
@@ -330,7 +330,7 @@ pub fn alu_tree(alloc: Global) -> Result<Chip, AllocError>
 pub fn shift_tree(alloc: Global) -> Result<Chip, AllocError>
     ensures { IfOk result (λ chip. chip ≡ shift_tree) }
 {
-    let mut parts = List::new(alloc);
+    let mut parts = Vec::new(alloc);
     add_part(
         alloc,
         &mut parts,
@@ -349,6 +349,6 @@ pub fn shift_tree(alloc: Global) -> Result<Chip, AllocError>
         b"Shift",
         &[bus(b"in", 16), pin(b"left")],
         &[bus(b"out", 16)],
-        parts,
+        List::of(parts),
     )
 }

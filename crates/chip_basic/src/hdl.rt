@@ -46,11 +46,14 @@ impl<'a> Model for Joint<'a> {
 
     ghost Value = { Connection };
 
-    ghost view = { λ j. record { pin = record { name = j.pin.now; subscript = j.bits }; source = the_source j.origin } };
+    ghost view = { λ j. record {
+      pin = record { name = j.pin.now; subscript = j.bits };
+      source = the_source j.origin;
+    } };
 }
 
 /// A name that ends in a number below 100, as `carry7`.
-pub fn numbered(alloc: Global, text: &[u8], number: u8) -> Result<Name, AllocError>
+pub fn numbered_name(alloc: Global, text: &[u8], number: u8) -> Result<Name, AllocError>
     ensures { IfOk result (λ name. name ≡ text.now ++ digits number) }
 {
     let mut name = Vec::from_slice(alloc, text)?;
@@ -197,11 +200,11 @@ fn pin_of(alloc: Global, port: &Port<'_>) -> Result<Pin, AllocError>
 fn pins_of(alloc: Global, ports: &[Port<'_>]) -> Result<List<Pin>, AllocError>
     ensures { IfOk result (λ pins. pins ≡ ports.now) }
 {
-    let mut pins = List::new(alloc);
+    let mut pins = Vec::new(alloc);
     for port in ports {
         pins.push(pin_of(alloc, port)?)?;
     }
-    Ok(pins)
+    Ok(List::of(pins))
 }
 
 fn source_of(alloc: Global, origin: Origin<'_>) -> Result<Source, AllocError>
@@ -232,11 +235,11 @@ fn connection_of(alloc: Global, joint: &Joint<'_>) -> Result<Connection, AllocEr
 fn connections_of(alloc: Global, joints: &[Joint<'_>]) -> Result<List<Connection>, AllocError>
     ensures { IfOk result (λ connections. connections ≡ joints.now) }
 {
-    let mut connections = List::new(alloc);
+    let mut connections = Vec::new(alloc);
     for joint in joints {
         connections.push(connection_of(alloc, joint)?)?;
     }
-    Ok(connections)
+    Ok(List::of(connections))
 }
 
 /// `chip(joints);`
@@ -253,11 +256,12 @@ pub fn part(alloc: Global, chip: &[u8], joints: &[Joint<'_>]) -> Result<Part, Al
 /// The part `chip(joints);` after those that are there already.
 pub fn add_part(
     alloc: Global,
-    parts: &mut List<Part>,
+    parts: &mut Vec<Part>,
     chip: &[u8],
     joints: &[Joint<'_>],
 ) -> Result<(), AllocError>
-    ensures { IfOk result (λ _. parts.new ≡ parts.old ++ part_named chip.now joints.now ∷ []) }
+    ensures { IfOk result
+        (λ _. parts.new.items ≡ parts.old.items ++ part_named chip.now joints.now ∷ []) }
 {
     parts.push(part(alloc, chip, joints)?)?;
     Ok(())
@@ -295,7 +299,7 @@ pub fn builtin(
 {
     let inputs = pins_of(alloc, inputs)?;
     let outputs = pins_of(alloc, outputs)?;
-    let body = Body::Builtin(Name::from_bytes(alloc, name)?, List::new(alloc));
+    let body = Body::Builtin(Name::from_bytes(alloc, name)?, List::of(Vec::new(alloc)));
     Ok(Chip {
         name: Name::from_bytes(alloc, name)?,
         inputs,

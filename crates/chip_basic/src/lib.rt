@@ -8,7 +8,7 @@ mod trees;
 
 pub use hdl::{
     Joint, Origin, Port, add_part, bit_constant, bit_wire, bit_wire_bit, bits_wire, bits_wire_bits,
-    builtin, bus, chip, constant, numbered, part, pin, wire, wire_bit, wire_bits,
+    builtin, bus, chip, constant, numbered_name, part, pin, wire, wire_bit, wire_bits,
 };
 pub use laws::{
     and_law, and16_law, basic_texts_law, dmux_law, dmux4way_law, dmux8way_law, mux_law,

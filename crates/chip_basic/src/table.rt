@@ -55,8 +55,8 @@ fn joints_of<'a>(alloc: Global, links: &[Link<'a>]) -> Result<Vec<Joint<'a>>, Al
 }
 
 // The part of a row, after those that are there already.
-fn add_row(alloc: Global, parts: &mut List<Part>, row: &Row<'_>) -> Result<(), AllocError>
-    ensures { IfOk result (λ _. parts.new ≡ parts.old ++ part_of row.now ∷ []) }
+fn add_row(alloc: Global, parts: &mut Vec<Part>, row: &Row<'_>) -> Result<(), AllocError>
+    ensures { IfOk result (λ _. parts.new.items ≡ parts.old.items ++ part_of row.now ∷ []) }
 {
     let joints = joints_of(alloc, row.links)?;
     add_part(alloc, parts, row.chip, &joints)
@@ -66,9 +66,9 @@ fn add_row(alloc: Global, parts: &mut List<Part>, row: &Row<'_>) -> Result<(), A
 pub fn parts_of(alloc: Global, rows: &[Row<'_>]) -> Result<List<Part>, AllocError>
     ensures { IfOk result (λ parts. parts ≡ map part_of rows.now) }
 {
-    let mut parts = List::new(alloc);
+    let mut parts = Vec::new(alloc);
     for row in rows {
         add_row(alloc, &mut parts, row)?;
     }
-    Ok(parts)
+    Ok(List::of(parts))
 }

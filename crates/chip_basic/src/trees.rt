@@ -236,7 +236,7 @@ pub fn dmux_tree(alloc: Global) -> Result<Chip, AllocError>
 fn not_bits(alloc: Global) -> Result<List<Part>, AllocError>
     ensures { IfOk result (λ parts. parts ≡ each 16 not_bit) }
 {
-    let mut parts = List::new(alloc);
+    let mut parts = Vec::new(alloc);
     for bit in 0..16 {
         add_part(
             alloc,
@@ -245,7 +245,7 @@ fn not_bits(alloc: Global) -> Result<List<Part>, AllocError>
             &[wire_bit(b"in", b"in", bit), wire_bit(b"out", b"out", bit)],
         )?;
     }
-    Ok(parts)
+    Ok(List::of(parts))
 }
 
 /// The tree of Not16.
@@ -267,7 +267,7 @@ pub fn not16_tree(alloc: Global) -> Result<Chip, AllocError>
 fn and_bits(alloc: Global) -> Result<List<Part>, AllocError>
     ensures { IfOk result (λ parts. parts ≡ each 16 and_bit) }
 {
-    let mut parts = List::new(alloc);
+    let mut parts = Vec::new(alloc);
     for bit in 0..16 {
         add_part(
             alloc,
@@ -280,7 +280,7 @@ fn and_bits(alloc: Global) -> Result<List<Part>, AllocError>
             ],
         )?;
     }
-    Ok(parts)
+    Ok(List::of(parts))
 }
 
 /// The tree of And16.
@@ -302,7 +302,7 @@ pub fn and16_tree(alloc: Global) -> Result<Chip, AllocError>
 fn or_bits(alloc: Global) -> Result<List<Part>, AllocError>
     ensures { IfOk result (λ parts. parts ≡ each 16 or_bit) }
 {
-    let mut parts = List::new(alloc);
+    let mut parts = Vec::new(alloc);
     for bit in 0..16 {
         add_part(
             alloc,
@@ -315,7 +315,7 @@ fn or_bits(alloc: Global) -> Result<List<Part>, AllocError>
             ],
         )?;
     }
-    Ok(parts)
+    Ok(List::of(parts))
 }
 
 /// The tree of Or16.
@@ -337,7 +337,7 @@ pub fn or16_tree(alloc: Global) -> Result<Chip, AllocError>
 fn mux_bits(alloc: Global) -> Result<List<Part>, AllocError>
     ensures { IfOk result (λ parts. parts ≡ each 16 mux_bit) }
 {
-    let mut parts = List::new(alloc);
+    let mut parts = Vec::new(alloc);
     for bit in 0..16 {
         add_part(
             alloc,
@@ -351,7 +351,7 @@ fn mux_bits(alloc: Global) -> Result<List<Part>, AllocError>
             ],
         )?;
     }
-    Ok(parts)
+    Ok(List::of(parts))
 }
 
 /// The tree of Mux16.

@@ -5,7 +5,7 @@ ghost use Rattle.chip_basic.specs.Hdl.{each, part, wire, ways};
 ghost use Rattle.chip_memory.specs.Trees.{dff_tree, bit_tree, register_bit, register_named, register_tree, a_register_tree, d_register_tree, pc_tree, memory_named, word_part, ram8_tree, smaller, eight_of, ram64_tree, ram512_tree, ram4k_tree, ram16k_tree, screen_tree};
 
 use chip_basic::{
-    Joint, Link, Row, add_part, builtin, bus, chip, numbered, parts_of, pin, wire, wire_bit,
+    Joint, Link, Row, add_part, builtin, bus, chip, numbered_name, parts_of, pin, wire, wire_bit,
     wire_bits,
 };
 use hdl_tree::{Chip, List, Part};
@@ -58,7 +58,7 @@ pub fn bit_tree(alloc: Global) -> Result<Chip, AllocError>
 fn register_bits(alloc: Global) -> Result<List<Part>, AllocError>
     ensures { IfOk result (λ parts. parts ≡ each 16 register_bit) }
 {
-    let mut parts = List::new(alloc);
+    let mut parts = Vec::new(alloc);
     for bit in 0..16 {
         add_part(
             alloc,
@@ -71,7 +71,7 @@ fn register_bits(alloc: Global) -> Result<List<Part>, AllocError>
             ],
         )?;
     }
-    Ok(parts)
+    Ok(List::of(parts))
 }
 
 // Sixteen bits that are loaded together.
@@ -185,9 +185,9 @@ fn memory(alloc: Global, name: &[u8], bits: u8, parts: List<Part>) -> Result<Chi
 }
 
 // The part that hands the load on to one of eight.
-fn add_demux(alloc: Global, parts: &mut List<Part>, sel: Joint<'_>) -> Result<(), AllocError>
-    ensures { IfOk result (λ _. parts.new
-        ≡ parts.old ++ part "DMux8Way" (wire "in" "load" ∷ sel.entry ∷ ways 8 "load") ∷ []) }
+fn add_demux(alloc: Global, parts: &mut Vec<Part>, sel: Joint<'_>) -> Result<(), AllocError>
+    ensures { IfOk result (λ _. parts.new.items
+        ≡ parts.old.items ++ part "DMux8Way" (wire "in" "load" ∷ sel.entry ∷ ways 8 "load") ∷ []) }
 {
     add_part(
         alloc,
@@ -210,9 +210,9 @@ fn add_demux(alloc: Global, parts: &mut List<Part>, sel: Joint<'_>) -> Result<()
 }
 
 // The part that chooses one of eight words.
-fn add_mux(alloc: Global, parts: &mut List<Part>, sel: Joint<'_>) -> Result<(), AllocError>
-    ensures { IfOk result (λ _. parts.new
-        ≡ parts.old ++ part "Mux8Way16" (ways 8 "word" ++ sel.entry ∷ wire "out" "out" ∷ []) ∷ []) }
+fn add_mux(alloc: Global, parts: &mut Vec<Part>, sel: Joint<'_>) -> Result<(), AllocError>
+    ensures { IfOk result (λ _. parts.new.items
+        ≡ parts.old.items ++ part "Mux8Way16" (ways 8 "word" ++ sel.entry ∷ wire "out" "out" ∷ []) ∷ []) }
 {
     add_part(
         alloc,
@@ -234,11 +234,11 @@ fn add_mux(alloc: Global, parts: &mut List<Part>, sel: Joint<'_>) -> Result<(), 
     Ok(())
 }
 
-fn add_word(alloc: Global, parts: &mut List<Part>, number: u8) -> Result<(), AllocError>
-    ensures { IfOk result (λ _. parts.new ≡ parts.old ++ word_part number ∷ []) }
+fn add_word(alloc: Global, parts: &mut Vec<Part>, number: u8) -> Result<(), AllocError>
+    ensures { IfOk result (λ _. parts.new.items ≡ parts.old.items ++ word_part number ∷ []) }
 {
-    let load = numbered(alloc, b"load", number)?;
-    let word = numbered(alloc, b"word", number)?;
+    let load = numbered_name(alloc, b"load", number)?;
+    let word = numbered_name(alloc, b"word", number)?;
     add_part(
         alloc,
         parts,
@@ -252,8 +252,8 @@ fn add_word(alloc: Global, parts: &mut List<Part>, number: u8) -> Result<(), All
     Ok(())
 }
 
-fn add_words(alloc: Global, parts: &mut List<Part>) -> Result<(), AllocError>
-    ensures { IfOk result (λ _. parts.new ≡ parts.old ++ each 8 word_part) }
+fn add_words(alloc: Global, parts: &mut Vec<Part>) -> Result<(), AllocError>
+    ensures { IfOk result (λ _. parts.new.items ≡ parts.old.items ++ each 8 word_part) }
 {
     for number in 0..8 {
         add_word(alloc, parts, number)?;
@@ -266,26 +266,26 @@ fn add_words(alloc: Global, parts: &mut List<Part>) -> Result<(), AllocError>
 pub fn ram8_tree(alloc: Global) -> Result<Chip, AllocError>
     ensures { IfOk result (λ chip. chip ≡ ram8_tree) }
 {
-    let mut parts = List::new(alloc);
+    let mut parts = Vec::new(alloc);
     add_demux(alloc, &mut parts, wire(b"sel", b"address"))?;
     add_words(alloc, &mut parts)?;
     add_mux(alloc, &mut parts, wire(b"sel", b"address"))?;
-    memory(alloc, b"RAM8", 3, parts)
+    memory(alloc, b"RAM8", 3, List::of(parts))
 }
 
 // A smaller memory, with the lowest bits of the address.
 fn add_smaller(
     alloc: Global,
-    parts: &mut List<Part>,
+    parts: &mut Vec<Part>,
     name: &[u8],
     bits: u8,
     number: u8,
 ) -> Result<(), AllocError>
     requires { 0 < bits }
-    ensures { IfOk result (λ _. parts.new ≡ parts.old ++ smaller name.now bits number ∷ []) }
+    ensures { IfOk result (λ _. parts.new.items ≡ parts.old.items ++ smaller name.now bits number ∷ []) }
 {
-    let load = numbered(alloc, b"load", number)?;
-    let word = numbered(alloc, b"word", number)?;
+    let load = numbered_name(alloc, b"load", number)?;
+    let word = numbered_name(alloc, b"word", number)?;
     add_part(
         alloc,
         parts,
@@ -302,13 +302,13 @@ fn add_smaller(
 
 fn add_all_smaller(
     alloc: Global,
-    parts: &mut List<Part>,
+    parts: &mut Vec<Part>,
     name: &[u8],
     bits: u8,
     count: u8,
 ) -> Result<(), AllocError>
     requires { 0 < bits }
-    ensures { IfOk result (λ _. parts.new ≡ parts.old ++ each count (smaller name.now bits)) }
+    ensures { IfOk result (λ _. parts.new.items ≡ parts.old.items ++ each count (smaller name.now bits)) }
 {
     for number in 0..count {
         add_smaller(alloc, parts, name, bits, number)?;
@@ -322,7 +322,7 @@ fn eight_of(alloc: Global, name: &[u8], bits: u8) -> Result<List<Part>, AllocErr
     requires small { bits < 16 }
     ensures { IfOk result (λ parts. parts ≡ eight_of name.now bits) }
 {
-    let mut parts = List::new(alloc);
+    let mut parts = Vec::new(alloc);
     add_demux(
         alloc,
         &mut parts,
@@ -334,7 +334,7 @@ fn eight_of(alloc: Global, name: &[u8], bits: u8) -> Result<List<Part>, AllocErr
         &mut parts,
         wire_bits(b"sel", b"address", bits, bits + 2),
     )?;
-    Ok(parts)
+    Ok(List::of(parts))
 }
 
 /// The tree of RAM64.
@@ -369,7 +369,7 @@ pub fn ram4k_tree(alloc: Global) -> Result<Chip, AllocError>
 pub fn ram16k_tree(alloc: Global) -> Result<Chip, AllocError>
     ensures { IfOk result (λ chip. chip ≡ ram16k_tree) }
 {
-    let mut parts = List::new(alloc);
+    let mut parts = Vec::new(alloc);
     add_part(
         alloc,
         &mut parts,
@@ -397,7 +397,7 @@ pub fn ram16k_tree(alloc: Global) -> Result<Chip, AllocError>
             wire(b"out", b"out"),
         ],
     )?;
-    memory(alloc, b"RAM16K", 14, parts)
+    memory(alloc, b"RAM16K", 14, List::of(parts))
 }
 
 /// The tree of Screen.
@@ -405,7 +405,7 @@ pub fn ram16k_tree(alloc: Global) -> Result<Chip, AllocError>
 pub fn screen_tree(alloc: Global) -> Result<Chip, AllocError>
     ensures { IfOk result (λ chip. chip ≡ screen_tree) }
 {
-    let mut parts = List::new(alloc);
+    let mut parts = Vec::new(alloc);
     add_part(
         alloc,
         &mut parts,
@@ -429,5 +429,5 @@ pub fn screen_tree(alloc: Global) -> Result<Chip, AllocError>
             wire(b"out", b"out"),
         ],
     )?;
-    memory(alloc, b"Screen", 13, parts)
+    memory(alloc, b"Screen", 13, List::of(parts))
 }

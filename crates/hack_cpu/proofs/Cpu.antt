@@ -23,7 +23,7 @@ use Rattle.chip_memory.specs.Trees.{a_register_tree, d_register_tree, pc_tree}
 use Rattle.chip_memory.proofs.Registers.{a_register_works, d_register_works}
 use Rattle.chip_memory.proofs.Counter.{pc_works}
 use Rattle.hack_cpu.specs.Trees.{HasComputerChips, cpu_tree}
-use Rattle.hack_cpu.specs.Cpu.{CpuWorks, a_held, d_held, pc_held, op, a_or_m, computed, shifted, is_shift, result, jumps_on}
+use Rattle.hack_cpu.specs.Cpu.{CpuWorks, a_held, d_held, pc_held, op, a_or_m, alu_output, shift_output, is_shift, result, jumps_on}
 
 pub low15 : (f : ℕ → Bool) → number 15 f ≡ number 16 f % 32768
 low15 f = by (f 15) (number 15 f) (number_below 15 f)
@@ -126,7 +126,7 @@ module _ (world : World) (library : Chips) (has : HasComputerChips library) (n :
     unfolding end_of cpu_tree
     alu_part = piece 7 _ (shipped_entry alu_tree) refl has.memories.computing.alu
 
-    computed_inside : word (w (7 ∷ [])) "out" c ≡ computed w c
+    computed_inside : word (w (7 ∷ [])) "out" c ≡ alu_output w c
     unfolding end_of cpu_tree alu_tree
     computed_inside =
         let j = alu_part.outside.joined in
@@ -140,7 +140,7 @@ module _ (world : World) (library : Chips) (has : HasComputerChips library) (n :
         let e6 : w (7 ∷ []) (codes "no") 0 c ≡ op w c 6 = j.1.1.1.1.1.1.1.0 0 (lit< tt) in
         (alu_works world library has.memories.computing c (λ path. w (7 ∷ path)) alu_part.inside).out ∙ same_alu _ _ _ _ _ _ _ _ _ _ _ _ _ _ _ _ x y e1 e2 e3 e4 e5 e6
 
-    computed_is : word (w []) "computed" c ≡ computed w c
+    computed_is : word (w []) "computed" c ≡ alu_output w c
     unfolding end_of cpu_tree alu_tree
     computed_is = sym (number_same 16 _ _ (λ k le. whole_joined c (shipped_entry alu_tree) (w []) (w (7 ∷ [])) (codes "out") (codes "computed") alu_part.outside.joined.1.1.1.1.1.1.1.1.0 k le)) ∙ computed_inside
 
@@ -171,7 +171,7 @@ module _ (world : World) (library : Chips) (has : HasComputerChips library) (n :
         let o = number_same 16 _ _ (λ k le. whole_joined c (shipped_entry mux16_tree) (w []) (w (21 ∷ [])) (codes "out") (codes "shiftOperand") j.1.1.1.0 k le) in
         sym o ∙ mux16_works world library has.memories.computing.basic c (λ path. w (21 ∷ path)) p.inside ∙ ap (λ x. cond x (word (w (21 ∷ [])) "b" c) (word (w (21 ∷ [])) "a" c)) s ∙ ap₂ (λ x y. cond (op w c 10) x y) b a
 
-    shifted_is : word (w []) "shifted" c ≡ shifted w c
+    shifted_is : word (w []) "shifted" c ≡ shift_output w c
     unfolding end_of cpu_tree shift_tree
     shifted_is =
         let p = piece 22 _ (shipped_entry shift_tree) refl has.memories.computing.shift in

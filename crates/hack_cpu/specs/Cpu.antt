@@ -30,12 +30,12 @@ abbrev pub a_or_m : (List ℕ → Histories) → ℕ → ℕ
 a_or_m wires c = cond (op wires c 12) (word (wires []) "inM" c) (a_held wires c)
 
 -- what the ALU gives: of D, and of A or M
-abbrev pub computed : (List ℕ → Histories) → ℕ → ℕ
-computed wires c = combine (op wires c 7) (op wires c 6) (preset (op wires c 11) (op wires c 10) (d_held wires c)) (preset (op wires c 9) (op wires c 8) (a_or_m wires c))
+abbrev pub alu_output : (List ℕ → Histories) → ℕ → ℕ
+alu_output wires c = combine (op wires c 7) (op wires c 6) (preset (op wires c 11) (op wires c 10) (d_held wires c)) (preset (op wires c 9) (op wires c 8) (a_or_m wires c))
 
 -- what a shift gives: of D where bit 10 is 1, else of A or M, and to the left where bit 11 is 1
-abbrev pub shifted : (List ℕ → Histories) → ℕ → ℕ
-shifted wires c = word_shift (op wires c 11) (cond (op wires c 10) (d_held wires c) (a_or_m wires c))
+abbrev pub shift_output : (List ℕ → Histories) → ℕ → ℕ
+shift_output wires c = word_shift (op wires c 11) (cond (op wires c 10) (d_held wires c) (a_or_m wires c))
 
 -- bits 15, 14 and 13 are 1, 0 and 1: the instruction is a shift
 abbrev pub is_shift : (List ℕ → Histories) → ℕ → Bool
@@ -43,7 +43,7 @@ is_shift wires c = op wires c 15 && (not (op wires c 14) && op wires c 13)
 
 -- the result: what the shift gives where the instruction is one, else what the ALU gives
 abbrev pub result : (List ℕ → Histories) → ℕ → ℕ
-result wires c = cond (is_shift wires c) (shifted wires c) (computed wires c)
+result wires c = cond (is_shift wires c) (shift_output wires c) (alu_output wires c)
 
 -- whether the instruction jumps on this result
 abbrev pub jumps_on : (List ℕ → Histories) → ℕ → ℕ → Bool

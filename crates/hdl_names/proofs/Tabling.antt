@@ -43,11 +43,11 @@ key_more : (keys : List (Vec ℕ Global)) (key : Vec ℕ Global) (name : List �
 key_more keys key name = key_by (list_any (is_key key.items) keys) keys key name refl
 
 pub indexed_more : (chips : NamedChips) (keys : List (Vec ℕ Global)) (entries : List Entry) (key : Vec ℕ Global) (entry : Entry) → key.items ≡ entry.name → keys ≡ insert_key (λ x y. bytes_eq x.items y.items) chips.names.keys key
-    → entries ≡ chips.entries ++ entry ∷ [] → IsIndexed chips → (name : List ℕ) → list_any (is_key name) keys ≡ is_some (find_entry entries name)
+    → entries ≡ chips.entries.items ++ entry ∷ [] → IsIndexed chips → (name : List ℕ) → list_any (is_key name) keys ≡ is_some (find_entry entries name)
 indexed_more chips keys entries key entry named more pushed indexed name =
     ap (list_any (is_key name)) more ∙ key_more chips.names.keys key name
-    ∙ ap (λ (b : Bool). b || bytes_eq name key.items) (indexed name) ∙ ap (λ (n : List ℕ). is_some (find_entry chips.entries name) || bytes_eq name n) named
-    ∙ sym (found_more chips.entries entry name) ∙ ap (λ (es : List Entry). is_some (find_entry es name)) (sym pushed)
+    ∙ ap (λ (b : Bool). b || bytes_eq name key.items) (indexed name) ∙ ap (λ (n : List ℕ). is_some (find_entry chips.entries.items name) || bytes_eq name n) named
+    ∙ sym (found_more chips.entries.items entry name) ∙ ap (λ (es : List Entry). is_some (find_entry es name)) (sym pushed)
 
 -- what a search by name says
 pub some_found : (f : Option Entry) → is_some f ≡ true → (e : Entry) × (f ≡ Some e)

@@ -10,4 +10,4 @@ abbrev pub is_key : List ℕ → Vec ℕ Global → Bool
 is_key name key = bytes_eq name key.items
 
 abbrev pub IsIndexed : NamedChips → Type 0
-IsIndexed chips = (name : List ℕ) → list_any (is_key name) chips.names.keys ≡ is_some (find_entry chips.entries name)
+IsIndexed chips = (name : List ℕ) → list_any (is_key name) chips.names.keys ≡ is_some (find_entry chips.entries.items name)

@@ -11,7 +11,7 @@ use std::alloc::{AllocError, Global};
 
 /// Chips, with a table of their names.
 pub struct NamedChips {
-    pub entries: List<Entry>,
+    pub entries: Vec<Entry>,
     names: IndexSet<Vec<u8>>,
 }
 
@@ -28,11 +28,11 @@ impl Drop for NamedChips {
 impl NamedChips {
     /// No chips.
     pub fn new(alloc: Global) -> NamedChips
-        ensures none { result.entries ≡ [] }
+        ensures none { result.entries.items ≡ [] }
         ensures indexed { IsIndexed result }
     {
         NamedChips {
-            entries: List::new(alloc),
+            entries: Vec::new(alloc),
             names: IndexSet::new(alloc),
         }
     }
@@ -40,7 +40,7 @@ impl NamedChips {
     /// Whether one of them has this name.
     pub fn has(&self, name: &[u8]) -> bool
         requires { IsIndexed self.now }
-        ensures { result ≡ is_some (find_entry self.now.entries name.now) }
+        ensures { result ≡ is_some (find_entry self.now.entries.items name.now) }
     {
         self.names.contains(name)
     }
@@ -48,7 +48,7 @@ impl NamedChips {
     /// One chip more, after the others. Where memory runs out, its name may be in the table, and the chip is not there.
     pub fn push(&mut self, alloc: Global, entry: Entry) -> Result<(), AllocError>
         requires { IsIndexed self.old }
-        ensures pushed { OnOk result (self.new.entries ≡ self.old.entries ++ entry ∷ []) }
+        ensures pushed { OnOk result (self.new.entries.items ≡ self.old.entries.items ++ entry ∷ []) }
         ensures indexed { OnOk result (IsIndexed self.new) }
     {
         let name = Vec::from_slice(alloc, entry.name.as_bytes())?;
@@ -62,9 +62,9 @@ impl NamedChips {
 
     /// The chips, without the table of their names.
     pub fn into_entries(self) -> List<Entry>
-        ensures { result ≡ self.entries }
+        ensures { result ≡ self.entries.items }
     {
         let NamedChips { entries, names: _ } = self;
-        entries
+        List::of(entries)
     }
 }

@@ -1,10 +1,9 @@
 //! Lists, which contracts see as lists.
-ghost use Rattle.std.specs.Prelude.{◌≡◌, [], ◌∷◌, ◌++◌, OnOk, OnErr};
+ghost use Rattle.std.specs.Prelude.{◌≡◌};
 
-use std::alloc::{AllocFailed, Global};
 use std::marker::Model;
 
-/// A list that grows at its end.
+/// A list that is made once, and does not grow.
 #[derive(Drop)]
 pub struct List<T> {
     items: Vec<T>,
@@ -19,15 +18,6 @@ impl<T> Model for List<T> {
 }
 
 impl<T> List<T> {
-    /// No items.
-    pub fn new(alloc: Global) -> List<T>
-        ensures { result ≡ [] }
-    {
-        List {
-            items: Vec::new(alloc),
-        }
-    }
-
     /// The items of a vector.
     pub fn of(items: Vec<T>) -> List<T>
         ensures { result ≡ items.items }
@@ -35,12 +25,12 @@ impl<T> List<T> {
         List { items }
     }
 
-    /// One more item at the end. For want of memory the list stays as it was.
-    pub fn push(&mut self, item: T) -> Result<(), AllocFailed<T>>
-        ensures ok { OnOk result (self.new ≡ self.old ++ item ∷ []) }
-        ensures err { OnErr result (self.new ≡ self.old) }
+    /// The vector that it was made of.
+    pub(crate) fn into_items(self) -> Vec<T>
+        ensures { result.items ≡ self }
     {
-        self.items.push(item)
+        let List { items } = self;
+        items
     }
 
     /// The items.

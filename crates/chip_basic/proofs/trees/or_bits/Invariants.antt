@@ -4,4 +4,4 @@ use Rattle.chip_basic.specs.Trees.{or_bit}
 use Rattle.chip_basic.proofs.trees.or_bits.Given as goal
 
 abbrev pub invariant-loop-bit : goal.invariant-loop-bit
-invariant-loop-bit l = l.parts ≡ each l.bit or_bit
+invariant-loop-bit l = l.parts.items ≡ each l.bit or_bit
