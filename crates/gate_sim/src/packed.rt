@@ -71,7 +71,12 @@ impl Model for Packed {
 
     ghost Value = { PackedState };
 
-    ghost view = { λ p. record { net = p.net; values = values_of p.places.items p.slots.items; start = bits_of p.places.items p.start.items; fixed = bits_of p.places.items p.fixed.items } };
+    ghost view = { λ p. record {
+      net = p.net;
+      values = values_of p.places.items p.slots.items;
+      start = bits_of p.places.items p.start.items;
+      fixed = bits_of p.places.items p.fixed.items;
+    } };
 
     ghost invariant = { λ p. PackedFits p.net p.ops.items p.lanes.items p.places.items p.takes.items
         p.slots.items p.start.items p.fixed.items p.readers.spans.items p.readers.list.items

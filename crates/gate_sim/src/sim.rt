@@ -54,7 +54,17 @@ impl Model for Sim {
 
     ghost Value = { SimState };
 
-    ghost view = { λ sim. record { net = sim.packed.net; start = sim.packed.start; values = sim.packed.values; fixed = sim.packed.fixed; writes = sim.writes.items; memory = sim.memory.items; fresh = sim.fresh; written = sim.written.items; whole = sim.whole } };
+    ghost view = { λ sim. record {
+      net = sim.packed.net;
+      start = sim.packed.start;
+      values = sim.packed.values;
+      fixed = sim.packed.fixed;
+      writes = sim.writes.items;
+      memory = sim.memory.items;
+      fresh = sim.fresh;
+      written = sim.written.items;
+      whole = sim.whole;
+    } };
 
     ghost invariant = { λ sim. SimFits sim.packed.net sim.packed.start sim.packed.values
         sim.writes.items sim.memory.items sim.fresh sim.written.items sim.whole };
@@ -338,7 +348,7 @@ impl Sim {
     pub fn values_law(&self)
         ensures { (calls : List Call) → (v : ℕ → ℕ → Bool) × AreValues self.now.net calls v }
     {
-        let _ = self.packed.net().nodes();
+        self.packed.net().ordered_law();
     }
 }
 

@@ -45,11 +45,11 @@ part_named_all P (x ∷ parts) name part all e = by (bytes_eq x.chip name) (part
   by false rest found = rest found
 
 -- what holds of all that is named holds of what a text means
-pub means_named : (P : ℕ → Type 0) (net : Net) (d : Directory) (text nodes : List ℕ) → OfNamed P d → chips.Means (loaded_chip net d) text (Nodes nodes) → All P nodes
+pub means_named : (P : ℕ → Type 0) (net : Net) (d : Directory) (text nodes : List ℕ) → OfNamed P d → chips.Denotes (loaded_chip net d) text (Nodes nodes) → All P nodes
 means_named P net d text nodes h (inl e) = pin_fits (All P) (d.inputs ++ d.outputs) text nodes (All-append (λ pin. All P pin.nodes) d.inputs d.outputs h.inputs h.outputs) e
 means_named P net d text nodes h (inr out) = part_named_all P d.parts out.0 out.2.0 h.parts out.2.1 nodes out.2.2
 
-pub bus_fits : (net : Net) (d : Directory) (text nodes : List ℕ) → FitsNet net d → chips.Means (loaded_chip net d) text (Nodes nodes) → IsBus net nodes
+pub bus_fits : (net : Net) (d : Directory) (text nodes : List ℕ) → FitsNet net d → chips.Denotes (loaded_chip net d) text (Nodes nodes) → IsBus net nodes
 bus_fits net d text nodes fits (inl e) = pin_fits (IsBus net) (d.inputs ++ d.outputs) text nodes (All-append (λ pin. IsBus net pin.nodes) d.inputs d.outputs (All-weaker (λ pin. IsInput net pin.nodes) (λ pin. IsBus net pin.nodes) (λ pin. input_is_bus net pin.nodes) d.inputs fits.inputs) fits.outputs) e
 bus_fits net d text nodes fits (inr out) =
     let part : IsPart net out.2.0 = part_fits net d.parts out.0 out.2.0 fits.parts out.2.1 in

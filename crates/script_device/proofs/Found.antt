@@ -12,7 +12,7 @@ use Rattle.script_device.specs.Directory.{AreSizes, HasBlock, HasOut, loaded_chi
 use Rattle.script_device.specs.Variables as chips
 use Rattle.script_device.specs.Variables.{HasNumber, HasWord, number_after}
 use Rattle.script_device.specs.Variables.Source.{BlockWord, Nodes}
-use Rattle.script_device.specs.Devices.{Source, Means, CanSet}
+use Rattle.script_device.specs.Devices.{Source, Denotes, CanSet}
 use Rattle.script_device.specs.Devices.Source.{TheTime, OfChip, OfMachine}
 use Rattle.script_device.specs.Devices.Device.{Chip}
 use Rattle.script_device.specs.Inner.Brackets.{HasBrackets, NoBrackets}
@@ -60,7 +60,7 @@ out_found d text name inside has e (Some nodes) out = is_out d text name inside 
 pub number_has : (text name : List ℕ) (k : ℕ) (n : HasNumber text name k) → HasBrackets text name n.written
 number_has text name k n = record { digits = n.digits; is = n.is }
 
-pub no_word : (net : Net) (d : Directory) (text : List ℕ) (b a : ℕ) → NoBrackets text → chips.Means (loaded_chip net d) text (BlockWord b a) → ⊥
+pub no_word : (net : Net) (d : Directory) (text : List ℕ) (b a : ℕ) → NoBrackets text → chips.Denotes (loaded_chip net d) text (BlockWord b a) → ⊥
 no_word net d text b a none m = none m.0 m.1.written (number_has text m.0 a m.1)
 
 -- what stands in the brackets, and the block of the name
@@ -70,7 +70,7 @@ pub record WordOf (net : Net) (d : Directory) (name inside : List ℕ) (b a : �
   pub block : HasBlock d name b
   pub word : HasWord net b a
 
-pub word_of : (net : Net) (d : Directory) (text name inside : List ℕ) (b a : ℕ) → HasBrackets text name inside → chips.Means (loaded_chip net d) text (BlockWord b a) → WordOf net d name inside b a
+pub word_of : (net : Net) (d : Directory) (text name inside : List ℕ) (b a : ℕ) → HasBrackets text name inside → chips.Denotes (loaded_chip net d) text (BlockWord b a) → WordOf net d name inside b a
 word_of net d text name inside b a has m =
     let n : HasNumber text m.0 a = m.1 in
     let o = once text name inside m.0 n.written has (number_has text m.0 a n) in
@@ -81,7 +81,7 @@ word_of net d text name inside b a has m =
       word = m.3;
     }
 
-pub is_word : (net : Net) (d : Directory) (text name inside : List ℕ) (b a : ℕ) → HasBrackets text name inside → 0 < length inside → a ≡ number_after 0 inside → HasBlock d name b → HasWord net b a → chips.Means (loaded_chip net d) text (BlockWord b a)
+pub is_word : (net : Net) (d : Directory) (text name inside : List ℕ) (b a : ℕ) → HasBrackets text name inside → 0 < length inside → a ≡ number_after 0 inside → HasBlock d name b → HasWord net b a → chips.Denotes (loaded_chip net d) text (BlockWord b a)
 is_word net d text name inside b a has some number block word = (name, record { written = inside; some = some; digits = has.digits; is = has.is; number = number }, block, word)
 
 -- ---- sizes
@@ -118,17 +118,17 @@ one_block d name b c x y =
 
 -- what is found for a word
 abbrev pub WordFound : Net → Directory → List ℕ → Option (ℕ × ℕ) → Type 0
-WordFound net d text found = MatchOption found ((b a : ℕ) → chips.Means (loaded_chip net d) text (BlockWord b a) → ⊥) (λ word. chips.Means (loaded_chip net d) text (BlockWord word.0 word.1))
+WordFound net d text found = MatchOption found ((b a : ℕ) → chips.Denotes (loaded_chip net d) text (BlockWord b a) → ⊥) (λ word. chips.Denotes (loaded_chip net d) text (BlockWord word.0 word.1))
 
 -- ---- the whole
 
-pub means_nothing : (net : Net) (d : Directory) (calls : List Call) (text : List ℕ) → (text ≡ codes "time" → ⊥) → pin_named (d.inputs ++ d.outputs) text ≡ None → ((nodes : List ℕ) → IsOut d text nodes → ⊥) → ((b a : ℕ) → chips.Means (loaded_chip net d) text (BlockWord b a) → ⊥) → (source : Source) → Means (Chip (loaded_chip net d) calls) text source → ⊥
+pub means_nothing : (net : Net) (d : Directory) (calls : List Call) (text : List ℕ) → (text ≡ codes "time" → ⊥) → pin_named (d.inputs ++ d.outputs) text ≡ None → ((nodes : List ℕ) → IsOut d text nodes → ⊥) → ((b a : ℕ) → chips.Denotes (loaded_chip net d) text (BlockWord b a) → ⊥) → (source : Source) → Denotes (Chip (loaded_chip net d) calls) text source → ⊥
 means_nothing net d calls text time pin out word TheTime m = time m
 means_nothing net d calls text time pin out word (OfChip (Nodes nodes)) m = elim m.1 [ inl p ↦ absurd cc | inr o ↦ out nodes o ]
 means_nothing net d calls text time pin out word (OfChip (BlockWord b a)) m = word b a m.1
 means_nothing net d calls text time pin out word (OfMachine register) m = m
 
-pub sets_nothing : (net : Net) (d : Directory) (calls : List Call) (text : List ℕ) → pin_named d.inputs text ≡ None → ((b a : ℕ) → chips.Means (loaded_chip net d) text (BlockWord b a) → ⊥) → (source : Source) → CanSet (Chip (loaded_chip net d) calls) text source → ⊥
+pub sets_nothing : (net : Net) (d : Directory) (calls : List Call) (text : List ℕ) → pin_named d.inputs text ≡ None → ((b a : ℕ) → chips.Denotes (loaded_chip net d) text (BlockWord b a) → ⊥) → (source : Source) → CanSet (Chip (loaded_chip net d) calls) text source → ⊥
 sets_nothing net d calls text pin word TheTime m = m
 sets_nothing net d calls text pin word (OfChip (Nodes nodes)) m = let found : pin_named d.inputs text ≡ Some nodes = m.1 in absurd cc
 sets_nothing net d calls text pin word (OfChip (BlockWord b a)) m = word b a m.1

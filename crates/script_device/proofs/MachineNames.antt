@@ -6,7 +6,7 @@ use Rattle.hack_isa.specs.Machine.{Machine}
 use Rattle.script_device.specs.Variables.{HasNumber, number_after}
 use Rattle.script_device.specs.declared.machine.Register as code
 use Rattle.script_device.specs.declared.machine.Register.TheVariants as found
-use Rattle.script_device.specs.Machines.{Register, RunningMachine, Means}
+use Rattle.script_device.specs.Machines.{Register, RunningMachine, Denotes}
 use Rattle.script_device.specs.Machines.Register.{A, D, Pc, Word, Key}
 use Rattle.script_device.specs.Inner.Brackets.{HasBrackets}
 use Rattle.script_device.specs.Inner.Registers.{IsStored, StandsAt}
@@ -58,9 +58,9 @@ word_found text name inside n has e some capped (Some x) at =
     (n, subst (HasNumber text (codes "RAM")) exact (is_word text name inside has e some), at)
 
 -- a word is found after the names of the registers
-pub register_found : (text : List ℕ) → (text ≡ codes "A" → ⊥) → (text ≡ codes "D" → ⊥) → (text ≡ codes "PC" → ⊥) → (r : Option code.Register) → MatchOption r (NoWord text) (IsWordOf text) → MatchOption r ((x : Register) → Means text x → ⊥) (λ x. Means text (register_of x))
+pub register_found : (text : List ℕ) → (text ≡ codes "A" → ⊥) → (text ≡ codes "D" → ⊥) → (text ≡ codes "PC" → ⊥) → (r : Option code.Register) → MatchOption r (NoWord text) (IsWordOf text) → MatchOption r ((x : Register) → Denotes text x → ⊥) (λ x. Denotes text (register_of x))
 register_found text a d pc None none = no where
-  no : (x : Register) → Means text x → ⊥
+  no : (x : Register) → Denotes text x → ⊥
   no A m = a m
   no D m = d m
   no Pc m = pc m
@@ -73,7 +73,7 @@ register_found text a d pc (Some (found.Word k)) word = (subst (HasNumber text (
 register_found text a d pc (Some found.Key) word = subst (HasNumber text (codes "RAM")) word.2 word.1
 
 -- what is found can be set and seen
-pub stored : (text : List ℕ) (r : code.Register) → Means text (register_of r) → IsStored r
+pub stored : (text : List ℕ) (r : code.Register) → Denotes text (register_of r) → IsStored r
 stored text found.A m = tt
 stored text found.D m = tt
 stored text found.Pc m = tt
@@ -85,7 +85,7 @@ pub same_machine : {i j : List ℕ} {s t : Machine} → i ≡ j → s ≡ t → 
 same_machine {j = j} {s = s} e f key cycle ticked = ap (λ i. running i s key cycle ticked) e ∙ ap (λ s. running j s key cycle ticked) f
 
 -- where a text is no register, and not the time, it means nothing
-pub no_register : (machine : RunningMachine) (text : List ℕ) → (text ≡ codes "time" → ⊥) → ((x : Register) → Means text x → ⊥) → (source : Source) → devices.Means (Held machine) text source → ⊥
+pub no_register : (machine : RunningMachine) (text : List ℕ) → (text ≡ codes "time" → ⊥) → ((x : Register) → Denotes text x → ⊥) → (source : Source) → devices.Denotes (Held machine) text source → ⊥
 no_register machine text time none TheTime m = time m
 no_register machine text time none (OfChip source) m = m
 no_register machine text time none (OfMachine register) m = none register m

@@ -16,7 +16,7 @@ use Rattle.script_device.specs.Variables.Source.{Nodes, BlockWord}
 use Rattle.script_device.specs.declared.machine.ScriptMachine.{ScriptMachine}
 use Rattle.script_device.specs.declared.device.Device.TheVariants as held
 use Rattle.script_device.specs.declared.variables.Variable.{Variable}
-use Rattle.script_device.specs.Devices.{Device, Source, Means, CanSet}
+use Rattle.script_device.specs.Devices.{Device, Source, Denotes, CanSet}
 use Rattle.script_device.specs.Devices.Device.{Empty, Chip, Machine}
 use Rattle.script_device.specs.Running.{IsEvaluated, Stands, running_of}
 use Rattle.script_device.specs.Inner.Sources.{source_of}
@@ -41,7 +41,7 @@ on_machine m P h (Machine machine) s = subst (λ x. P (Machine x)) (sym s) h
 -- ---- what is found
 
 abbrev pub FoundIn : LoadedChip → List Call → List ℕ → Option Variable → Type 0
-FoundIn chip calls text found = MatchOption found ((source : Source) → Means (Chip chip calls) text source → ⊥) (λ v. Means (Chip chip calls) text (source_of v))
+FoundIn chip calls text found = MatchOption found ((source : Source) → Denotes (Chip chip calls) text source → ⊥) (λ v. Denotes (Chip chip calls) text (source_of v))
 
 abbrev pub SettableIn : LoadedChip → List Call → List ℕ → Option Variable → Type 0
 SettableIn chip calls text found = MatchOption found ((source : Source) → CanSet (Chip chip calls) text source → ⊥) (λ v. CanSet (Chip chip calls) text (source_of v))

@@ -28,14 +28,14 @@ abbrev pub IsOther : List ℕ → Type 0
 IsOther text = text ≢ codes "time"
 
 -- What a text stands for.
-abbrev pub Means : Device → List ℕ → Source → Type 0
-Means device text TheTime = text ≡ codes "time"
-Means Empty text (OfChip source) = ⊥
-Means Empty text (OfMachine register) = ⊥
-Means (Chip chip calls) text (OfChip source) = IsOther text × chips.Means chip text source
-Means (Chip chip calls) text (OfMachine register) = ⊥
-Means (Machine machine) text (OfChip source) = ⊥
-Means (Machine machine) text (OfMachine register) = machines.Means text register
+abbrev pub Denotes : Device → List ℕ → Source → Type 0
+Denotes device text TheTime = text ≡ codes "time"
+Denotes Empty text (OfChip source) = ⊥
+Denotes Empty text (OfMachine register) = ⊥
+Denotes (Chip chip calls) text (OfChip source) = IsOther text × chips.Denotes chip text source
+Denotes (Chip chip calls) text (OfMachine register) = ⊥
+Denotes (Machine machine) text (OfChip source) = ⊥
+Denotes (Machine machine) text (OfMachine register) = machines.Denotes text register
 
 -- What a text stands for that can be set.
 abbrev pub CanSet : Device → List ℕ → Source → Type 0
@@ -45,7 +45,7 @@ CanSet Empty text (OfMachine register) = ⊥
 CanSet (Chip chip calls) text (OfChip source) = IsOther text × chips.CanSet chip text source
 CanSet (Chip chip calls) text (OfMachine register) = ⊥
 CanSet (Machine machine) text (OfChip source) = ⊥
-CanSet (Machine machine) text (OfMachine register) = machines.Means text register
+CanSet (Machine machine) text (OfMachine register) = machines.Denotes text register
 
 -- ---- what commands make of a device; before the first load nothing is set or stepped
 

@@ -27,12 +27,12 @@ pub data Register : Type 0 where
   Key : Register
 
 -- What a text stands for; `RAM[k]` is a word of memory below the address of the keyboard, and the key at this address.
-abbrev pub Means : List ℕ → Register → Type 0
-Means text A = text ≡ codes "A"
-Means text D = text ≡ codes "D"
-Means text Pc = text ≡ codes "PC"
-Means text (Word k) = HasNumber text (codes "RAM") k × (k < keyboard)
-Means text Key = HasNumber text (codes "RAM") keyboard
+abbrev pub Denotes : List ℕ → Register → Type 0
+Denotes text A = text ≡ codes "A"
+Denotes text D = text ≡ codes "D"
+Denotes text Pc = text ≡ codes "PC"
+Denotes text (Word k) = HasNumber text (codes "RAM") k × (k < keyboard)
+Denotes text Key = HasNumber text (codes "RAM") keyboard
 
 -- a word is put at an address
 abbrev pub with_word : (ℕ → ℕ) → ℕ → ℕ → ℕ → ℕ

@@ -13,7 +13,7 @@ use Rattle.script_device.specs.declared.device.Device as code_devices
 use Rattle.script_device.specs.declared.device.Device.TheVariants as code
 use Rattle.script_device.specs.Machines.{RunningMachine, Register}
 use Rattle.script_device.specs.Machines.Register.{A, D, Pc, Word, Key}
-use Rattle.script_device.specs.Devices.{Device, HasRom, Source, CanSet, Means, after_set, with_image}
+use Rattle.script_device.specs.Devices.{Device, HasRom, Source, CanSet, Denotes, after_set, with_image}
 use Rattle.script_device.specs.Devices.Device.{Empty, Chip, Machine}
 use Rattle.script_device.specs.Devices.Source.{TheTime, OfChip, OfMachine}
 use Rattle.script_device.specs.Variables.Source.{Nodes, BlockWord}
@@ -78,12 +78,12 @@ probe_source (probes.Register register) = OfMachine (register_of register)
 
 -- the text means what the probe stands for, or there is no probe and it means nothing
 abbrev pub Finds : Device → List ℕ → Option Probe → Type 0
-Finds device text None = (source : Source) → Means device text source → ⊥
-Finds device text (Some probe) = Means device text (probe_source probe)
+Finds device text None = (source : Source) → Denotes device text source → ⊥
+Finds device text (Some probe) = Denotes device text (probe_source probe)
 
 -- some text means what the probe stands for
 abbrev pub CanSee : Device → Probe → Type 0
-CanSee device probe = (text : List ℕ) × Means device text (probe_source probe)
+CanSee device probe = (text : List ℕ) × Denotes device text (probe_source probe)
 
 -- ---- instruction memories
 

@@ -30,13 +30,13 @@ abbrev pub HasWord : Net → ℕ → ℕ → Type 0
 HasWord net b a = MatchOption (slice_get net.blocks b) ⊥ (λ block. a < block.words)
 
 -- What a text stands for: a pin of the chip; `Name[]`, the out of the first part of that chip; `Name[k]`, a word of its block.
-abbrev pub Means : LoadedChip → List ℕ → Source → Type 0
-Means chip text (Nodes nodes) =
+abbrev pub Denotes : LoadedChip → List ℕ → Source → Type 0
+Denotes chip text (Nodes nodes) =
     (pin_named (chip.directory.inputs ++ chip.directory.outputs) text ≡ Some nodes)
     ⊎ ((name : List ℕ) × (text ≡ name ++ codes "[]") × HasOut chip.directory name nodes)
-Means chip text (BlockWord b a) = (name : List ℕ) × HasNumber text name a × HasBlock chip.directory name b × HasWord chip.net b a
+Denotes chip text (BlockWord b a) = (name : List ℕ) × HasNumber text name a × HasBlock chip.directory name b × HasWord chip.net b a
 
 -- What a text stands for that can be set: an input of the chip, or a word of a block.
 abbrev pub CanSet : LoadedChip → List ℕ → Source → Type 0
 CanSet chip text (Nodes nodes) = pin_named chip.directory.inputs text ≡ Some nodes
-CanSet chip text (BlockWord b a) = Means chip text (BlockWord b a)
+CanSet chip text (BlockWord b a) = Denotes chip text (BlockWord b a)

@@ -130,7 +130,7 @@ impl ChipSim {
         ensures seen { IfOk result (λ s. (k : ℕ) → k < length net.nodes → IsSeen s.frame k) }
         ensures whole { IfOk result (λ s. s.frame.whole ≡ None) }
     {
-        let _ = net.nodes();
+        net.ordered_law();
         Ok(ChipSim {
             sim: Sim::new(alloc, net)?,
             whole: None,
@@ -149,7 +149,7 @@ impl ChipSim {
         let kept = with_pins(alloc, net.nodes(), named)?;
         let Simple { net: simple, place } = simplify(alloc, &net, &kept)?;
         let places = places_by_node(alloc, net.nodes().len(), &kept, &place)?;
-        let _ = simple.nodes();
+        simple.ordered_law();
         Ok(ChipSim {
             sim: Sim::new(alloc, simple)?,
             whole: Some(WholeNet { net, kept, places }),

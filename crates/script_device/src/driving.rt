@@ -7,7 +7,7 @@ ghost use Rattle.gate_sim.specs.Values.{AreValues};
 ghost use Rattle.script_device.specs.Directory.{AreSizes, IsBus, IsInput, OfNamed, loaded_chip, part_named, pin_named};
 ghost use Rattle.script_device.specs.Driven.{Sees, ChipRuns, IsDriven, bus_value, chip_of, value_seen, set_source, time_after, time_of};
 ghost use Rattle.script_device.specs.Simulated.{ReadsAs};
-ghost use Rattle.script_device.specs.Variables.{Means};
+ghost use Rattle.script_device.specs.Variables.{Denotes};
 ghost use Rattle.script_device.specs.Variables.Source.{BlockWord, Nodes};
 
 use crate::bus::{bus_word, set_bus};
@@ -216,7 +216,7 @@ impl DrivenChip {
     /// What stood on nodes at the last evaluation.
     pub fn bus(&self, nodes: &[u32]) -> Value
         requires bus { IsBus (chip_of self.now).net nodes.now }
-        requires named { (text : List ℕ) × Means (chip_of self.now) text (Nodes nodes.now) }
+        requires named { (text : List ℕ) × Denotes (chip_of self.now) text (Nodes nodes.now) }
         ensures { (calls told : List Call) (v : ℕ → ℕ → Bool) → IsDriven self.now calls
             → Sees (chip_of self.now) calls told v
             → result ≡ value_seen (chip_of self.now) calls told v (Nodes nodes.now) }

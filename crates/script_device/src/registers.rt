@@ -6,7 +6,7 @@ ghost use Rattle.script_device.specs.Variables.{HasNumber};
 ghost use Rattle.script_device.specs.Inner.Registers.{StandsAt};
 ghost use Rattle.script_device.specs.Running.{register_of};
 ghost use Rattle.script_device.specs.Machines as machines;
-ghost use Rattle.script_device.specs.Machines.{Means};
+ghost use Rattle.script_device.specs.Machines.{Denotes};
 
 use crate::brackets::{brackets, capped_number};
 use crate::machine::Register;
@@ -42,8 +42,8 @@ fn find_word(text: &[u8]) -> Option<Register>
 
 /// The register of the machine that a text stands for.
 pub fn find_register(text: &[u8]) -> Option<Register>
-    ensures { MatchOption result ((r : machines.Register) → Means text.now r → ⊥)
-        (λ r. Means text.now (register_of r)) }
+    ensures { MatchOption result ((r : machines.Register) → Denotes text.now r → ⊥)
+        (λ r. Denotes text.now (register_of r)) }
 {
     if text == b"A".as_slice() {
         return Some(Register::A);

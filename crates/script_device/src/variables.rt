@@ -6,7 +6,7 @@ ghost use Rattle.gate_sim.specs.Calls.{Call};
 ghost use Rattle.script_device.specs.Directory.{AreSizes, HasBlock, HasOut, loaded_chip, pin_named};
 ghost use Rattle.script_device.specs.Variables as chips;
 ghost use Rattle.script_device.specs.Variables.Source.{BlockWord};
-ghost use Rattle.script_device.specs.Devices.{CanSet, Means, Source};
+ghost use Rattle.script_device.specs.Devices.{CanSet, Denotes, Source};
 ghost use Rattle.script_device.specs.Devices.Device.{Chip};
 ghost use Rattle.script_device.specs.Inner.Sources.{HasSize, IsOut, source_of};
 
@@ -88,8 +88,8 @@ fn part_out<'a>(directory: &'a Directory, text: &[u8]) -> Option<&'a [u32]>
 // The block and the address of `Name[k]`.
 fn part_word(directory: &Directory, sizes: &[u32], text: &[u8]) -> Option<(u32, u32)>
     ensures { (net : Net) → AreSizes sizes.now net → MatchOption result
-        ((b a : ℕ) → chips.Means (loaded_chip net directory.now) text.now (BlockWord b a) → ⊥)
-        (λ word. chips.Means (loaded_chip net directory.now) text.now (BlockWord word.0 word.1)) }
+        ((b a : ℕ) → chips.Denotes (loaded_chip net directory.now) text.now (BlockWord b a) → ⊥)
+        (λ word. chips.Denotes (loaded_chip net directory.now) text.now (BlockWord word.0 word.1)) }
 {
     let Some((name, inside)) = brackets(text) else {
         return None;
@@ -115,8 +115,8 @@ pub fn find_variable<'a>(
     text: &[u8],
 ) -> Option<Variable<'a>>
     ensures { (net : Net) (calls : List Call) → AreSizes sizes.now net → MatchOption result
-        ((source : Source) → Means (Chip (loaded_chip net directory.now) calls) text.now source → ⊥)
-        (λ found. Means (Chip (loaded_chip net directory.now) calls) text.now (source_of found)) }
+        ((source : Source) → Denotes (Chip (loaded_chip net directory.now) calls) text.now source → ⊥)
+        (λ found. Denotes (Chip (loaded_chip net directory.now) calls) text.now (source_of found)) }
 {
     if text == b"time".as_slice() {
         return Some(Variable::Time);

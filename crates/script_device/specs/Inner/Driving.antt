@@ -18,8 +18,8 @@ SetsChip chip calls now text word false = ((source : Source) → CanSet (Chip ch
 
 -- what the text means in the machine was set to the word, or it means nothing
 abbrev pub SetsMachine : RunningMachine → RunningMachine → List ℕ → ℕ → Bool → Type 0
-SetsMachine old now text word true = (register : Register) × machines.Means text register × (now ≡ machines.after_set old register word)
-SetsMachine old now text word false = ((register : Register) → machines.Means text register → ⊥) × (now ≡ old)
+SetsMachine old now text word true = (register : Register) × machines.Denotes text register × (now ≡ machines.after_set old register word)
+SetsMachine old now text word false = ((register : Register) → machines.Denotes text register → ⊥) × (now ≡ old)
 
 -- a block has as many words as an instruction memory
 abbrev pub IsWhole : List ℕ → ℕ → Type 0

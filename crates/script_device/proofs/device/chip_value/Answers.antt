@@ -3,7 +3,7 @@ use Rattle.script_device.specs.declared.probe.Probe.{Probe}
 use Rattle.script_device.specs.declared.probe.Probe.TheVariants as probes
 use Rattle.script_device.specs.Directory.{IsBus}
 use Rattle.script_device.specs.Driven.{chip_of}
-use Rattle.script_device.specs.Variables.{Means}
+use Rattle.script_device.specs.Variables.{Denotes}
 use Rattle.script_device.specs.Variables.Source.{Nodes}
 use Rattle.script_device.specs.Devices.Device.{Chip}
 use Rattle.script_device.specs.Running.{CanSee}
@@ -23,7 +23,7 @@ bus-requires-clause-named c =
     let chip = chip_of c.args.chip.now in
     let P : Probe → Type 0 = CanSee (Chip chip c.requires.seen.0) in
     let see : CanSee (Chip chip c.requires.seen.0) (probes.Bus c.in-Bus.nodes) = subst P c.in-Bus.is c.requires.seen.1 in
-    let Q : List ℕ → Type 0 = λ nodes. (text : List ℕ) × Means chip text (Nodes nodes) in
+    let Q : List ℕ → Type 0 = λ nodes. (text : List ℕ) × Denotes chip text (Nodes nodes) in
     subst Q (sym c.as_slice.ensures) (see.0, see.1.1)
 
 pub returns-in-Word : goal.returns-in-Word
