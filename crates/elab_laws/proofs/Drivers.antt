@@ -1,10 +1,10 @@
 -- What drives each bit of a chip and of the parts in it: an output bit of an end, an input bit of the chip, or a constant. Wherever the chip is wired
 -- the bit has the value of what drives it, so in each numbering its node.
-use Rattle.std.proofs.Common.{◌≡◌, ℕ, zero, suc, ◌+◌, ◌-◌, ◌<◌, ◌≤◌, ◌⊎◌, inl, inr, Bool, true, false, ◌&&◌, ◌||◌, nat_eq, List, [], ◌∷◌, ◌++◌, length, Option, Some, None, refl, sym, ap, subst, ◌∙◌}
-use Rattle.std.specs.Prelude.{slice_get, is_some, nat_le, codes}
+use Rattle.std.proofs.Common.{◌≡◌, ℕ, zero, suc, ◌+◌, ◌-◌, ◌<◌, inl, inr, Bool, true, false, ◌&&◌, ◌||◌, nat_eq, List, [], ◌∷◌, ◌++◌, length, Option, Some, None, refl, sym, ap, subst, ◌∙◌}
+use Rattle.std.specs.Prelude.{slice_get, is_some, codes}
 use Rattle.std.specs.Str.{bytes_eq}
 use Rattle.std.specs.Cmp.Lexicographic.{bytes_decides}
-use Rattle.std.proofs.lemmas.Bool.Decides.{Decides-eqb, leb_tells}
+use Rattle.std.proofs.lemmas.Bool.Decides.{Decides-eqb}
 use Rattle.hdl_tree.specs.declared.tree.Source.{Source}
 use Rattle.hdl_tree.specs.declared.tree.Source.TheVariants as source
 use Rattle.hdl_tree.specs.declared.tree.Part.{Part}
@@ -29,26 +29,13 @@ use Rattle.hdl_behaviours.specs.Reads.{out_bits}
 use Rattle.hdl_behaviours.specs.Inner.Feeding.{backwards}
 use Rattle.hdl_behaviours.proofs.Paths.{backwards-twice, chip_below, part_of_by}
 use Rattle.hdl_behaviours.proofs.Loopless.{each_at}
-use Rattle.hdl_behaviours.proofs.Sources.{item_of, Sourced, source_of}
+use Rattle.hdl_behaviours.proofs.Sources.{Sourced, source_of}
 use Rattle.hdl_behaviours.proofs.Traced.{around_of, IsFine, fine_at, apart_by, output_width, no_end_by, ReachedBy, reached_by, driven_by}
 use Rattle.hdl_flatten.specs.Ends.{EndsHavePins}
 use Rattle.hdl_flatten.specs.Trees.{all_bits, end_nodes}
 use Rattle.hdl_flatten.proofs.Reading.{has_bit}
 use Rattle.hdl_flatten.proofs.Ending.{has_ends}
 use Rattle.hdl_elab.proofs.Ending.{out_alone}
-
--- ---- small facts
-
-and_both : (a b : Bool) → (a && b) ≡ true → (a ≡ true) × (b ≡ true)
-and_both true b h = (refl, h)
-and_both false b h = absurd cc
-
-le_by : (a b : ℕ) → nat_le a b ≡ true → a ≤ b
-le_by a b h = by (leb_tells a b)
-  where
-    by : ((nat_le a b ≡ true) × (a ≤ b)) ⊎ ((nat_le a b ≡ false) × (b < a)) → a ≤ b
-    by (inl k) = k.1
-    by (inr k) = let f : true ≡ false = sym h ∙ k.0 in absurd cc
 
 -- ---- drivers
 

@@ -50,6 +50,6 @@ pub fn put_in_net(alloc: Global, flat: &Flat) -> Result<Elab, AllocError>
     let Ordered { net, places } = ordered(alloc, flat)?;
     let pins = moved_pins(alloc, flat.pins.as_slice(), &places)?;
     let parts = moved_parts(alloc, flat.parts.as_slice(), &places)?;
-    let _ = net.nodes();
+    net.ordered_law();
     Ok(Elab { net, pins, parts })
 }

@@ -17,6 +17,5 @@ pub mod Words
 pub mod Putting
 pub mod Sized
 pub mod Flattened
-pub mod Stacks
 pub mod Visiting
 pub mod Pending

@@ -6,8 +6,8 @@ use Rattle.std.proofs.lemmas.List.Sums.{sum_by-cons}
 use Rattle.hdl_tree.specs.declared.tree.Part.{Part}
 use Rattle.hdl_tree.specs.declared.ends.End.{End}
 use Rattle.hdl_tree.specs.Chips.{Chips, parts_of}
-use Rattle.hdl_flatten.specs.Inner.Stacks.{from_bottom}
-use Rattle.hdl_flatten.proofs.Stacks.{HasTop, top_of}
+use Rattle.hdl_check.specs.Inner.Stacks.{from_bottom}
+use Rattle.hdl_check.proofs.Stacks.{HasTop, top_of}
 use Rattle.hdl_flatten.specs.declared.wires.Origin.{Origin}
 use Rattle.hdl_flatten.specs.declared.plan.Plan.{Plan}
 use Rattle.hdl_flatten.specs.declared.plan.PartPlan.{PartPlan}

@@ -14,8 +14,8 @@ use Rattle.hdl_tree.specs.Writable.{is_among}
 use Rattle.hdl_check.specs.declared.fault.FaultKind.TheVariants as kinds
 use Rattle.hdl_check.specs.Faults.{fault_in, part_fault_by}
 use Rattle.hdl_check.specs.Locations.{AtPart, Inside, at_inner, inner_of, fault_of_part, fault_at, IsFaultless}
-use Rattle.hdl_flatten.specs.Inner.Stacks.{from_bottom}
-use Rattle.hdl_flatten.proofs.Stacks.{HasTop, top_of}
+use Rattle.hdl_check.specs.Inner.Stacks.{from_bottom}
+use Rattle.hdl_check.proofs.Stacks.{HasTop, top_of}
 use Rattle.hdl_check.proofs.Keeping.{get_set_other, get_set_same}
 use Rattle.hdl_plans.specs.Plans.{IsSound}
 use Rattle.hdl_plans.specs.Planned.{plan_of}

@@ -1,5 +1,4 @@
 pub mod Nests
-pub mod Stacks
 pub mod Visits
 pub mod Sizes
 pub mod Wired

@@ -191,7 +191,7 @@ fn rom_block(alloc: Global, inputs: &[u32]) -> Result<Block, AllocError>
 {
     Ok(Block {
         words: 32768,
-        data: List::new(alloc),
+        data: List::of(Vec::new(alloc)),
         load: LOW,
         address: list_from(alloc, inputs)?,
     })

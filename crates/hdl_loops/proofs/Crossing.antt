@@ -11,7 +11,7 @@ use Rattle.hdl_plans.proofs.Simple.{Among, once_are, get_among}
 use Rattle.hdl_plans.proofs.Walks.{under, join_ways, joined_inner}
 use Rattle.hdl_loops.specs.Inner.Hops.{bit, input_of, output_of, HasHop, Linked}
 use Rattle.hdl_loops.specs.Inner.Knowing.{IsFull, IsStraight}
-use Rattle.hdl_loops.specs.Inner.Told.{Trip}
+use Rattle.hdl_loops.specs.Inner.Report.{Trip}
 use Rattle.hdl_loops.specs.declared.hops.Hop.{Hop}
 use Rattle.hdl_loops.proofs.Leaping.{InHop, HopTrip}
 use Rattle.hdl_loops.proofs.Lists.{there_at}

@@ -15,7 +15,7 @@ use Rattle.hdl_plans.specs.Plans.{is_input}
 use Rattle.hdl_plans.specs.Loops.{BitAt}
 use Rattle.hdl_loops.specs.Inner.Hops.{bit, HasHop}
 use Rattle.hdl_loops.specs.Inner.Ties.{In, Tie, tie, ties_below, ties_by, ties_in, gather}
-use Rattle.hdl_loops.specs.Inner.Told.{Connects, HasConnection}
+use Rattle.hdl_loops.specs.Inner.Report.{Connects, HasConnection}
 use Rattle.hdl_loops.specs.Inner.Knowing.{Leap, leap_of, leaps_of, leap_by, leaps_from, leaps_through, ties_for, leaps_at, part_leaps, place_of, crosses, IsGraph, IsHop, AreHops}
 use Rattle.hdl_loops.specs.declared.hops.Hop.{Hop}
 use Rattle.hdl_loops.specs.declared.known.Known.{Known}

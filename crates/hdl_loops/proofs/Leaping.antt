@@ -17,7 +17,7 @@ use Rattle.hdl_plans.proofs.Walks.{under}
 use Rattle.hdl_loops.specs.Inner.Hops.{bit, input_of, output_of}
 use Rattle.hdl_loops.specs.Inner.Knowing.{end_crosses, IsHop}
 use Rattle.hdl_loops.specs.Inner.Tasks.{passage_of, TripThrough}
-use Rattle.hdl_loops.specs.Inner.Told.{HasConnection, Trip}
+use Rattle.hdl_loops.specs.Inner.Report.{HasConnection, Trip}
 use Rattle.hdl_loops.specs.declared.hops.Dependency.{Dependency}
 use Rattle.hdl_loops.specs.declared.hops.Hop.{Hop}
 use Rattle.hdl_loops.specs.declared.known.Known.{Known}

@@ -1,6 +1,7 @@
 -- Which bits lead to which, as more is found.
-use Rattle.std.proofs.Common.{◌≡◌, ℕ, zero, suc, ◌+◌, ◌<◌, ◌≤◌, ◌⊎◌, inl, inr, Bool, true, false, cond, ◌&&◌, ◌||◌, List, [], ◌∷◌, ◌++◌, length, map, Some, get_or, refl, sym, ap, subst, ◌∙◌, arith, below_more}
-use Rattle.std.specs.Prelude.{slice_get}
+use Rattle.std.proofs.Common.{◌≡◌, ℕ, zero, suc, ◌+◌, ◌<◌, ◌≤◌, ◌⊎◌, inl, inr, Bool, true, false, cond, ◌&&◌, ◌||◌, List, [], ◌∷◌, ◌++◌, length, map, Some, get_or, take, drop, refl, sym, ap, subst, ◌∙◌, arith, below_more}
+use Rattle.std.specs.Prelude.{slice_get, slice_index_or, slice_set}
+use Rattle.std.proofs.lemmas.List.{append-nil, drop_all, take_all}
 use Rattle.std.proofs.lemmas.Option.{slice_get_within, get_or_from_slice_get}
 use Rattle.hdl_check.proofs.MarkLemmas.{both}
 use Rattle.hdl_plans.specs.Loops.{BitAt, bit_at}
@@ -107,3 +108,21 @@ pub way_forth : (hs back : List Hop) → back ≡ map turn hs → (x y : BitAt) 
 way_forth hs back is x y w =
     let v : Way (HasHop (map turn hs)) y x = subst (λ (v : List Hop). Way (HasHop v) y x) is w in
     back_on (map turn hs) hs v.over y x (λ a b h. hop_forth hs b a h) v.steps
+
+-- ---- hops that are turned where they stand
+
+pub turned_twice : (hs : List Hop) → map turn (map turn hs) ≡ hs
+turned_twice [] = refl
+turned_twice (h ∷ hs) = ap (λ (v : List Hop). h ∷ v) (turned_twice hs)
+
+one_done_at : (hs : List Hop) (k : ℕ) (h : Hop) → k < length hs → slice_index_or (map turn (take k hs) ++ drop k hs) k h ≡ h → slice_set (map turn (take k hs) ++ drop k hs) k (turn h) ≡ map turn (take (suc k) hs) ++ drop (suc k) hs
+one_done_at [] k h lt e = absurd (omega (arith, lt))
+one_done_at (x ∷ hs) zero h lt e = ap (λ (v : Hop). turn v ∷ hs) (sym e)
+one_done_at (x ∷ hs) (suc k) h lt e = ap (λ (v : List Hop). turn x ∷ v) (one_done_at hs k h (omega (arith, lt)) e)
+
+pub one_done : (hs now : List Hop) (k : ℕ) (h : Hop) → k < length hs → now ≡ map turn (take k hs) ++ drop k hs → slice_index_or now k h ≡ h → slice_set now k (turn h) ≡ map turn (take (suc k) hs) ++ drop (suc k) hs
+one_done hs now k h lt is e =
+    ap (λ (v : List Hop). slice_set v k (turn h)) is ∙ one_done_at hs k h lt (ap (λ (v : List Hop). slice_index_or v k h) (sym is) ∙ e)
+
+pub all_done : (hs now : List Hop) (k : ℕ) → length hs ≤ k → now ≡ map turn (take k hs) ++ drop k hs → now ≡ map turn hs
+all_done hs now k le is = is ∙ ap (λ (v : List Hop). map turn v ++ drop k hs) (take_all k hs le) ∙ ap (λ (v : List Hop). map turn hs ++ v) (drop_all k hs le) ∙ append-nil (map turn hs)

@@ -8,10 +8,10 @@ use Rattle.std.proofs.lemmas.Bool.Decides.{Decides-eqb}
 use Rattle.hdl_tree.specs.Writable.{is_among}
 use Rattle.hdl_tree.specs.Chips.{Chips}
 use Rattle.hdl_check.proofs.MarkLemmas.{or_false, both}
-use Rattle.hdl_loops.specs.Inner.Told.{TripAmong, AllAmong, AreTold, NotesOne, add_name, add_names, names_of, is_passage, was_passed}
+use Rattle.hdl_loops.specs.Inner.Report.{TripAmong, AllAmong, AreTold, NotesOne, add_name, add_names, names_of, is_passage, was_passed}
 use Rattle.hdl_loops.specs.Inner.Tasks.{PassTold}
-use Rattle.hdl_loops.specs.declared.told.Passage.{Passage}
-use Rattle.hdl_loops.specs.declared.told.Told.{Told}
+use Rattle.hdl_loops.specs.declared.report.Passage.{Passage}
+use Rattle.hdl_loops.specs.declared.report.Report.{Report}
 use Rattle.hdl_loops.proofs.Telling.{all_stay}
 
 -- ---- sets
@@ -52,10 +52,10 @@ named_more ks new v g e = ap (map g) e ∙ named_by g ks v
 
 -- ---- ways that are noted
 
-pub start_told : (chips : Chips) (told : Told) → told.passed.keys ≡ [] → AreTold chips told
+pub start_told : (chips : Chips) (told : Report) → told.passed.keys ≡ [] → AreTold chips told
 start_told chips told none place n b m k h chip at = absurd (let e : false ≡ true = sym (ap (list_any (is_passage place n b m k)) none) ∙ h in cc)
 
-pub still_told : (chips : Chips) (old new : Told) (names : List (List ℕ)) → AreTold chips old → new.passed.keys ≡ old.passed.keys → names_of new ≡ add_names (names_of old) names → AreTold chips new
+pub still_told : (chips : Chips) (old new : Report) (names : List (List ℕ)) → AreTold chips old → new.passed.keys ≡ old.passed.keys → names_of new ≡ add_names (names_of old) names → AreTold chips new
 still_told chips old new names are same more place n b m k h chip at =
     let r = are place n b m k (ap (λ (ps : List Passage). list_any (is_passage place n b m k) ps) (sym same) ∙ h) chip at in
     (r.0, r.1, subst (AllAmong r.0) (sym more) (all_stay r.0 (names_of old) names r.2))
@@ -86,7 +86,7 @@ same_passage p chip n b m k h =
       k_is = (Decides-eqb k d.out).0 g.1;
     }
 
-pub noted_told : (chips : Chips) (old new : Told) (p : Passage) → AreTold chips old → names_of new ≡ names_of old → NotesOne old new p → PassTold chips p (names_of old) → AreTold chips new
+pub noted_told : (chips : Chips) (old new : Report) (p : Passage) → AreTold chips old → names_of new ≡ names_of old → NotesOne old new p → PassTold chips p (names_of old) → AreTold chips new
 noted_told chips old new p are same one pass place n b m k h chip at = by (or_cases (was_passed old place n b m k) (is_passage place n b m k p) (one place n b m k h))
   where
     by : (was_passed old place n b m k ≡ true) ⊎ (is_passage place n b m k p ≡ true) → TripAmong chips chip n b m k (names_of new)

@@ -10,11 +10,11 @@ use Rattle.hdl_loops.specs.Inner.Hops.{bit, input_of, output_of, Linked}
 use Rattle.hdl_check.proofs.Stages.{entry_there}
 use Rattle.hdl_loops.specs.Inner.Knowing.{AreHops, IsStraight, AreKnown, IsWayIn, Nests}
 use Rattle.hdl_loops.specs.Inner.Stacked.{times, power}
-use Rattle.hdl_loops.specs.Inner.Told.{Trip, TripAmong, AreTold, add_name, add_names, names_of, was_passed}
+use Rattle.hdl_loops.specs.Inner.Report.{Trip, TripAmong, AreTold, add_name, add_names, names_of, was_passed}
 use Rattle.hdl_loops.specs.Inner.Tasks.{net_tasks, way_tasks, Goes, IsSure, IsTask, AreTasks, twice, hop_count, room, tasks_weight}
 use Rattle.hdl_loops.specs.declared.hops.Hop.{Hop}
-use Rattle.hdl_loops.specs.declared.told.Passage.{Passage}
-use Rattle.hdl_loops.specs.declared.told.Told.{Told}
+use Rattle.hdl_loops.specs.declared.report.Passage.{Passage}
+use Rattle.hdl_loops.specs.declared.report.Report.{Report}
 use Rattle.hdl_loops.specs.declared.names.Task.{Task}
 use Rattle.hdl_loops.specs.declared.names.Task.TheVariants as tasks
 use Rattle.hdl_loops.specs.declared.known.Known.{Known}
@@ -93,7 +93,7 @@ circle_goes chips known chip n b depth ws told is lt linked hops straight fit =
     (λ names along. subst (IsLoop chips chip) (sym (told_all (n ∷ names))) (trip_loop chips chip n b names along.deep)) lt linked)
 
 -- a way that was reported is reported again by nothing
-pub told_goes : (chips : Chips) (told : Told) (p : Passage) (d : ℕ) (ts : List Task) (right : Names → Type 0) (chip : Entry) → slice_get chips.entries p.chip ≡ Some chip → AreTold chips told → was_passed told p.chip p.through.input.now p.through.bit p.through.output.now p.through.out ≡ true → Goes chips right (tasks.Pass p d ∷ ts) (names_of told) → Goes chips right ts (names_of told)
+pub told_goes : (chips : Chips) (told : Report) (p : Passage) (d : ℕ) (ts : List Task) (right : Names → Type 0) (chip : Entry) → slice_get chips.entries p.chip ≡ Some chip → AreTold chips told → was_passed told p.chip p.through.input.now p.through.bit p.through.output.now p.through.out ≡ true → Goes chips right (tasks.Pass p d ∷ ts) (names_of told) → Goes chips right ts (names_of told)
 told_goes chips told p d ts right chip there are was goes =
     let r = are p.chip p.through.input.now p.through.bit p.through.output.now p.through.out was chip there in
     subst (Goes chips right ts) (told_before r.0 (names_of told) r.2) (goes r.0 (record { chip = chip; there = there; trip = r.1 }))

@@ -6,7 +6,7 @@ use Rattle.std.specs.Cmp.Lexicographic.{bytes_decides}
 use Rattle.hdl_tree.specs.Writable.{is_among}
 use Rattle.hdl_check.proofs.MarkLemmas.{or_assoc, or_false}
 use Rattle.hdl_plans.specs.Loops.{once_more}
-use Rattle.hdl_loops.specs.Inner.Told.{add_name, add_names, AllAmong}
+use Rattle.hdl_loops.specs.Inner.Report.{add_name, add_names, AllAmong}
 
 abbrev Names : Type 0
 Names = List (List ℕ)

@@ -10,7 +10,7 @@ use Rattle.hdl_plans.specs.Ways.{Chain, Way}
 use Rattle.hdl_plans.proofs.Walks.{under, join, one_step, step_way}
 use Rattle.hdl_plans.proofs.Circles.{unders, shift_chain, chain_round, circle_of, tail_of}
 use Rattle.hdl_plans.proofs.Simple.{Among, Once, among_get, are_once}
-use Rattle.hdl_loops.specs.Inner.Told.{Trip}
+use Rattle.hdl_loops.specs.Inner.Report.{Trip}
 
 abbrev pub head_of : List BitAt → BitAt → BitAt
 head_of [] y = y

@@ -6,6 +6,6 @@ pub mod Trees
 pub mod Ranked
 pub mod Knowing
 pub mod Looked
-pub mod Told
+pub mod Report
 pub mod Stacked
 pub mod Tasks

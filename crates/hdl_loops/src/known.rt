@@ -1,12 +1,12 @@
 //! What is known of chips: which bits of a chip lead to which.
 
-ghost use Rattle.std.specs.Prelude.{◌≡◌, ◌<◌, ℕ, true, List, [], IfOk, length, map, slice_get};
+ghost use Rattle.std.specs.Prelude.{◌≡◌, ◌<◌, ℕ, true, List, [], IfOk, OnOk, length, map, slice_get};
 ghost use Rattle.hdl_check.specs.Whole.{chips_in};
 ghost use Rattle.hdl_plans.specs.Loops.{reaches_out, bit_at};
 ghost use Rattle.hdl_plans.specs.Ways.{Way, HasBit};
 ghost use Rattle.hdl_loops.specs.Inner.Hops.{bit, HasHop, IsWay, turn};
 ghost use Rattle.hdl_loops.specs.Inner.Leaving.{IsLinked};
-ghost use Rattle.hdl_loops.specs.Inner.Pairs.{has_pair};
+ghost use Rattle.hdl_loops.specs.Inner.Pairs.{AreWays, has_pair};
 ghost use Rattle.hdl_loops.specs.Inner.Knowing.{leads, leads_in, crosses, end_crosses};
 
 use crate::hops::{BitOf, Hop};
@@ -138,15 +138,14 @@ fn turn<'a>(hop: &Hop<'a>) -> Hop<'a>
     }
 }
 
-/// The hops the other way.
-fn turn_all<'a>(alloc: Global, hops: &[Hop<'a>]) -> Result<Vec<Hop<'a>>, AllocError>
-    ensures { IfOk result (λ v. v.items ≡ map turn hops.now) }
+/// Turns each hop the other way.
+fn turn_all<'a>(hops: &mut Vec<Hop<'a>>)
+    ensures { hops.new.items ≡ map turn hops.old.items }
 {
-    let mut turned = Vec::new(alloc);
-    for hop in hops {
-        turned.push(turn(hop))?;
+    for k in 0..hops.len() {
+        let hop = hops[k];
+        hops[k] = turn(&hop);
     }
-    Ok(turned)
 }
 
 /// How many bits these pins have; past the greatest number it is fewer, which does not matter.
@@ -158,24 +157,42 @@ fn count_bits(pins: &[Pin]) -> u64 {
     count
 }
 
-/// The pairs of a bit of the first pins and a bit of the second that leads to it.
-fn turned_pairs<'a>(
+/// The pairs of a bit of the first pins and a bit of the second to which it leads by hops, which are linked here.
+fn linked_pairs<'a>(
     alloc: Global,
     hops: &[Hop<'a>],
     first: &'a [Pin],
     second: &'a [Pin],
 ) -> Result<IndexSet<Pair<'a>>, AllocError>
-    ensures right { IfOk result
-        (λ s. (n m : List ℕ) (b k : ℕ) → has_pair s.keys (bit_at [] n b) (bit_at [] m k) ≡ true
-        → Way (HasHop hops.now) (bit_at [] m k) (bit_at [] n b)) }
+    ensures right { IfOk result (λ s. AreWays hops.now s.keys) }
     ensures there { IfOk result (λ s. (n m : List ℕ) (b k : ℕ) → HasBit first.now n b
-        → HasBit second.now m k → Way (HasHop hops.now) (bit_at [] m k) (bit_at [] n b)
+        → HasBit second.now m k → Way (HasHop hops.now) (bit_at [] n b) (bit_at [] m k)
         → has_pair s.keys (bit_at [] n b) (bit_at [] m k) ≡ true) }
 {
-    let back = turn_all(alloc, hops)?;
-    let list = back.as_slice();
-    let leaving = Leaving::of(alloc, list)?;
-    pairs_of(alloc, list, &leaving, first, second)
+    let leaving = Leaving::of(alloc, hops)?;
+    pairs_of(alloc, hops, &leaving, first, second)
+}
+
+/// The pairs of a bit of the first pins and a bit of the second that leads to it. The hops are turned for it and turned back, so that they
+/// stand once in memory.
+fn turned_pairs<'a>(
+    alloc: Global,
+    hops: &mut Vec<Hop<'a>>,
+    first: &'a [Pin],
+    second: &'a [Pin],
+) -> Result<IndexSet<Pair<'a>>, AllocError>
+    ensures same { OnOk result (hops.new.items ≡ hops.old.items) }
+    ensures right { IfOk result
+        (λ s. (n m : List ℕ) (b k : ℕ) → has_pair s.keys (bit_at [] n b) (bit_at [] m k) ≡ true
+        → Way (HasHop hops.old.items) (bit_at [] m k) (bit_at [] n b)) }
+    ensures there { IfOk result (λ s. (n m : List ℕ) (b k : ℕ) → HasBit first.now n b
+        → HasBit second.now m k → Way (HasHop hops.old.items) (bit_at [] m k) (bit_at [] n b)
+        → has_pair s.keys (bit_at [] n b) (bit_at [] m k) ≡ true) }
+{
+    turn_all(hops);
+    let pairs = linked_pairs(alloc, hops.as_slice(), first, second)?;
+    turn_all(hops);
+    Ok(pairs)
 }
 
 /// What is known of a chip that is no end and has these hops.
@@ -197,10 +214,10 @@ pub(crate) fn known_of<'a>(
 {
     let inputs = entry.chip.inputs.as_slice();
     let outputs = entry.chip.outputs.as_slice();
-    let list = hops.as_slice();
-    let leaving = Leaving::of(alloc, list)?;
     if count_bits(outputs) < count_bits(inputs) {
-        let pairs = turned_pairs(alloc, list, outputs, inputs)?;
+        let mut hops = hops;
+        let pairs = turned_pairs(alloc, &mut hops, outputs, inputs)?;
+        let leaving = Leaving::of(alloc, hops.as_slice())?;
         return Ok(Known {
             hops,
             leaving,
@@ -208,6 +225,8 @@ pub(crate) fn known_of<'a>(
             pairs,
         });
     }
+    let list = hops.as_slice();
+    let leaving = Leaving::of(alloc, list)?;
     let pairs = pairs_of(alloc, list, &leaving, inputs, outputs)?;
     Ok(Known {
         hops,

@@ -6,7 +6,7 @@
 //! rise along each hop show that. `tree` lists what
 //! is reached from a bit, and by which ways, along the hops that by `leaving` leave what is reached; `pairs` does so for each bit of some
 //! pins. `search` only proposes a circle, so that it is found quickly. `find` goes through the chips. `names` goes along a circle and
-//! through the parts, and `told` keeps the nets that it passes. What is proved is each answer: that there is no loop, or that the nets are a
+//! through the parts, and `report` keeps the nets that it passes. What is proved is each answer: that there is no loop, or that the nets are a
 //! loop's. There is no other but want of memory.
 #![tactic(auto)]
 
@@ -22,8 +22,8 @@ mod pairs;
 mod pins;
 mod places;
 mod ranks;
+mod report;
 mod search;
-mod told;
 mod tree;
 
 pub use find::find_loop;
@@ -38,5 +38,5 @@ pub use names::Task;
 pub use pairs::{Pair, PinNames};
 pub use places::Places;
 pub use ranks::Ranks;
-pub use told::{Passage, Told};
+pub use report::{Passage, Report};
 pub use tree::{Node, Tree};

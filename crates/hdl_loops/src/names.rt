@@ -5,14 +5,14 @@ ghost use Rattle.hdl_check.specs.Whole.{chips_in};
 ghost use Rattle.hdl_plans.specs.Loops.{IsLoop};
 ghost use Rattle.hdl_loops.specs.Inner.Hops.{input_of, output_of, WayRound};
 ghost use Rattle.hdl_loops.specs.Inner.Knowing.{HasWays, AreKnown, AreHops, IsStraight, Nests, leads_in, IsWayIn};
-ghost use Rattle.hdl_loops.specs.Inner.Told.{names_of, AreTold};
+ghost use Rattle.hdl_loops.specs.Inner.Report.{names_of, AreTold};
 ghost use Rattle.hdl_loops.specs.Inner.Tasks.{passage_of, pass_task, way_tasks, IsTask, AreTasks, IsSure, GoesOn, room, tasks_weight};
 
 use crate::circle::Circle;
 use crate::find::is_end;
 use crate::hops::{BitOf, Dependency, Hop};
 use crate::known::Known;
-use crate::told::{Passage, Told};
+use crate::report::{Passage, Report};
 use hdl_tree::{Entry, Memories, Name};
 use std::alloc::{AllocError, Global};
 
@@ -91,7 +91,7 @@ fn pass<'a>(
     passage: Passage<'a>,
     depth: usize,
     tasks: &mut Vec<Task<'a>>,
-    told: &Told<'a>,
+    told: &Report<'a>,
 ) -> Result<(), AllocError>
     requires known { AreKnown (chips_in entries.now memories) known.now }
     requires task { IsTask (chips_in entries.now memories) known.now (pass_task passage depth) }
@@ -124,7 +124,7 @@ fn tell_next<'a>(
     memories: Memories,
     known: &[Option<Known<'a>>],
     tasks: &mut Vec<Task<'a>>,
-    told: &mut Told<'a>,
+    told: &mut Report<'a>,
 ) -> Result<(), AllocError>
     requires some { 0 < length tasks.old.items }
     requires known { AreKnown (chips_in entries.now memories) known.now }
@@ -175,7 +175,7 @@ pub(crate) fn nets_of<'a>(
     requires nests { Nests depth (chips_in entries.now memories) entry.now }
     ensures { IfOk result (λ nets. IsLoop (chips_in entries.now memories) entry.now nets.items) }
 {
-    let mut told = Told::new(alloc);
+    let mut told = Report::new(alloc);
     told.add(circle.at.name)?;
     let mut tasks = Vec::new(alloc);
     put_way(circle.way.as_slice(), depth - 1, &mut tasks)?;

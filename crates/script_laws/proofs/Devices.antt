@@ -42,7 +42,7 @@ use Rattle.script_device.specs.Variables as chips
 use Rattle.script_device.specs.Variables.{HasNumber}
 use Rattle.script_device.specs.Variables.Source.{BlockWord, Nodes}
 use Rattle.script_device.specs.Driven.{Sees, bus_value, set_nodes, set_source, time_after, value_seen}
-use Rattle.script_device.specs.Devices.{CanSet, Means, Source}
+use Rattle.script_device.specs.Devices.{CanSet, Denotes, Source}
 use Rattle.script_device.specs.Inner.Brackets.{HasBrackets}
 use Rattle.script_device.proofs.Bracketed.{once}
 use Rattle.script_device.proofs.Found.{number_has, word_of, one_block as block_once}
@@ -460,19 +460,19 @@ module _ (memories : Memories) (c c' : LoadedChip) (o : OneChip memories c c') w
 
   pub record MeansMoved (text : List ℕ) (s : chips.Source) : Type 0 where
     pub s' : chips.Source
-    pub other : chips.Means c' text s'
+    pub other : chips.Denotes c' text s'
     pub same : SameSource s s'
 
   means_by : (text xs : List ℕ) → (pin_named (c.directory.inputs ++ c.directory.outputs) text ≡ Some xs) ⊎ ((name : List ℕ) × (text ≡ name ++ codes "[]") × HasOut c.directory name xs) → MeansMoved text (Nodes xs)
   means_by text xs (inl h) = let r = pin_moved text xs h in record { s' = Nodes r.ys; other = inl r.other; same = r.same }
   means_by text xs (inr (name, is, h)) = let r = out_moved name xs h in record { s' = Nodes r.ys; other = inr (name, is, r.other); same = r.same }
 
-  word_by : (text : List ℕ) (b a : ℕ) → chips.Means c text (BlockWord b a) → MeansMoved text (BlockWord b a)
+  word_by : (text : List ℕ) (b a : ℕ) → chips.Denotes c text (BlockWord b a) → MeansMoved text (BlockWord b a)
   word_by text b a (name, numbered, has, word) =
       let r = block_moved name b has in
       record { s' = BlockWord r.b' a; other = (name, numbered, r.other, size_moved (λ n. a < n) b r.b' r.same word); same = (r.same, refl) }
 
-  pub means_moved : (text : List ℕ) (s : chips.Source) → chips.Means c text s → MeansMoved text s
+  pub means_moved : (text : List ℕ) (s : chips.Source) → chips.Denotes c text s → MeansMoved text s
   means_moved text (Nodes xs) h = means_by text xs h
   means_moved text (BlockWord b a) h = word_by text b a h
 
@@ -506,7 +506,7 @@ module _ (memories : Memories) (c c' : LoadedChip) (o : OneChip memories c c') w
       let two : Some xs ≡ Some ys = sym out ∙ ap (λ (x : PartNodes). x.out) same ∙ out' in
       cc
 
-  nodes_once : (text xs ys : List ℕ) → chips.Means c text (Nodes xs) → chips.Means c text (Nodes ys) → xs ≡ ys
+  nodes_once : (text xs ys : List ℕ) → chips.Denotes c text (Nodes xs) → chips.Denotes c text (Nodes ys) → xs ≡ ys
   nodes_once text xs ys (inl h) (inl k) = let one : Some xs ≡ Some ys = sym h ∙ k in cc
   nodes_once text xs ys (inl h) (inr (name, is, out)) = absurd (plain text xs h name (93 ∷ []) is)
   nodes_once text xs ys (inr (name, is, out)) (inl k) = absurd (plain text ys k name (93 ∷ []) is)
@@ -514,7 +514,7 @@ module _ (memories : Memories) (c c' : LoadedChip) (o : OneChip memories c c') w
       let n = once text name [] name' [] (empty_has text name is) (empty_has text name' is') in
       outs_once name xs ys out (subst (λ (x : List ℕ). HasOut c.directory x ys) (sym n.0) out')
 
-  no_word : (text xs : List ℕ) (b a : ℕ) → chips.Means c text (Nodes xs) → chips.Means c text (BlockWord b a) → ⊥
+  no_word : (text xs : List ℕ) (b a : ℕ) → chips.Denotes c text (Nodes xs) → chips.Denotes c text (BlockWord b a) → ⊥
   no_word text xs b a (inl h) (name, numbered, has, word) = plain text xs h name (numbered.written ++ 93 ∷ []) numbered.is
   no_word text xs b a (inr (name, is, out)) (name', numbered, has, word) =
       let n = once text name [] name' numbered.written (empty_has text name is) (number_has text name' a numbered) in
@@ -522,7 +522,7 @@ module _ (memories : Memories) (c c' : LoadedChip) (o : OneChip memories c c') w
       let bad : 0 < 0 = subst (λ (l : List ℕ). 0 < length l) (sym n.1) some in
       absurd (omega (arith, bad))
 
-  words_once : (text : List ℕ) (b a b' a' : ℕ) → chips.Means c text (BlockWord b a) → chips.Means c text (BlockWord b' a') → BlockWord b a ≡ BlockWord b' a'
+  words_once : (text : List ℕ) (b a b' a' : ℕ) → chips.Denotes c text (BlockWord b a) → chips.Denotes c text (BlockWord b' a') → BlockWord b a ≡ BlockWord b' a'
   words_once text b a b' a' h k =
       let n : HasNumber text h.0 a = h.1 in
       let w = word_of c.net c.directory text h.0 n.written b' a' (number_has text h.0 a n) k in
@@ -530,7 +530,7 @@ module _ (memories : Memories) (c c' : LoadedChip) (o : OneChip memories c c') w
       let two : a ≡ a' = n.number ∙ sym w.number in
       ap₂ (λ (x y : ℕ). BlockWord x y) one two
 
-  pub means_once : (text : List ℕ) (s t : chips.Source) → chips.Means c text s → chips.Means c text t → s ≡ t
+  pub means_once : (text : List ℕ) (s t : chips.Source) → chips.Denotes c text s → chips.Denotes c text t → s ≡ t
   means_once text (Nodes xs) (Nodes ys) h k = ap Nodes (nodes_once text xs ys h k)
   means_once text (Nodes xs) (BlockWord b a) h k = absurd (no_word text xs b a h k)
   means_once text (BlockWord b a) (Nodes ys) h k = absurd (no_word text ys b a k h)
@@ -545,7 +545,7 @@ module _ (memories : Memories) (c c' : LoadedChip) (o : OneChip memories c c') w
       by true e go = e
       by false e go = go e
 
-  set_means : (text : List ℕ) (s : chips.Source) → chips.CanSet c text s → chips.Means c text s
+  set_means : (text : List ℕ) (s : chips.Source) → chips.CanSet c text s → chips.Denotes c text s
   set_means text (Nodes xs) h = inl (first_pin c.directory.inputs c.directory.outputs text xs h)
   set_means text (BlockWord b a) h = h
 

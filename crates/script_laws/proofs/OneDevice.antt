@@ -18,7 +18,7 @@ use Rattle.script_device.specs.Variables.{HasNumber}
 use Rattle.script_device.specs.Machines.{Register, RunningMachine}
 use Rattle.script_device.specs.Machines as machines
 use Rattle.script_device.specs.Machines.Register.{A, D, Pc, Word, Key}
-use Rattle.script_device.specs.Devices.{CanSet, Device, HasRom, Means, SeesAll, Source, after_eval, after_set, after_tick, after_tock, value_of, whole_memory, with_image}
+use Rattle.script_device.specs.Devices.{CanSet, Device, HasRom, Denotes, SeesAll, Source, after_eval, after_set, after_tick, after_tock, value_of, whole_memory, with_image}
 use Rattle.script_device.specs.Devices.Device.{Empty, Chip, Machine}
 use Rattle.script_device.specs.Devices.Source.{TheTime, OfChip, OfMachine}
 use Rattle.script_device.proofs.Found.{number_has, one_block as block_once}
@@ -77,7 +77,7 @@ register_byte Pc = 80
 register_byte (Word k) = 82
 register_byte Key = 82
 
-byte_of : (text : List ℕ) (r : Register) → machines.Means text r → first_byte text ≡ register_byte r
+byte_of : (text : List ℕ) (r : Register) → machines.Denotes text r → first_byte text ≡ register_byte r
 byte_of text A h = ap first_byte h
 byte_of text D h = ap first_byte h
 byte_of text Pc h = ap first_byte h
@@ -92,7 +92,7 @@ number_once text j k n m =
     let w = word_of text (codes "RAM") n.written k (number_has text (codes "RAM") j n) m in
     n.number ∙ sym w.number
 
-register_once : (text : List ℕ) (r s : Register) → machines.Means text r → machines.Means text s → r ≡ s
+register_once : (text : List ℕ) (r s : Register) → machines.Denotes text r → machines.Denotes text s → r ≡ s
 register_once text A A h m = refl
 register_once text A D h m = absurd (apart text 65 68 (byte_of text A h) (byte_of text D m) (λ e. absurd (omega (arith, e))))
 register_once text A Pc h m = absurd (apart text 65 80 (byte_of text A h) (byte_of text Pc m) (λ e. absurd (omega (arith, e))))
@@ -122,7 +122,7 @@ register_once text Key Key h m = refl
 time_byte : (text : List ℕ) → text ≡ codes "time" → first_byte text ≡ 116
 time_byte text h = ap first_byte h
 
-no_time : (text : List ℕ) (r : Register) → text ≡ codes "time" → machines.Means text r → ⊥
+no_time : (text : List ℕ) (r : Register) → text ≡ codes "time" → machines.Denotes text r → ⊥
 no_time text A t h = apart text 116 65 (time_byte text t) (byte_of text A h) (λ e. absurd (omega (arith, e)))
 no_time text D t h = apart text 116 68 (time_byte text t) (byte_of text D h) (λ e. absurd (omega (arith, e)))
 no_time text Pc t h = apart text 116 80 (time_byte text t) (byte_of text Pc h) (λ e. absurd (omega (arith, e)))
@@ -191,7 +191,7 @@ module _ (memories : Memories) where
 
   -- ---- what a text means
 
-  pub means_there : (d d' : Device) → SameDevice d d' → (text : List ℕ) (s : Source) → Means d text s → (s' : Source) × Means d' text s'
+  pub means_there : (d d' : Device) → SameDevice d d' → (text : List ℕ) (s : Source) → Denotes d text s → (s' : Source) × Denotes d' text s'
   means_there d d' h text TheTime m = (TheTime, m)
   means_there Empty d' h text (OfChip s) m = absurd m
   means_there Empty d' h text (OfMachine r) m = absurd m
@@ -238,7 +238,7 @@ module _ (memories : Memories) where
 
   -- ---- what is seen
 
-  pub value_same : (d d' : Device) → SameDevice d d' → (told told' : List Call) (v v' : ℕ → ℕ → Bool) → SeesAll d told v → SeesAll d' told' v' → (text : List ℕ) (s s' : Source) → Means d text s → Means d' text s' → value_of d told v s ≡ value_of d' told' v' s'
+  pub value_same : (d d' : Device) → SameDevice d d' → (told told' : List Call) (v v' : ℕ → ℕ → Bool) → SeesAll d told v → SeesAll d' told' v' → (text : List ℕ) (s s' : Source) → Denotes d text s → Denotes d' text s' → value_of d told v s ≡ value_of d' told' v' s'
   value_same Empty Empty h told told' v v' sees sees' text s s' m m' = refl
   value_same Empty (Chip c calls) h told told' v v' sees sees' text s s' m m' = absurd h
   value_same Empty (Machine x) h told told' v v' sees sees' text s s' m m' = absurd h
@@ -296,7 +296,7 @@ module _ (memories : Memories) where
       let rest = meant_there d d' h items ss m.1 in
       (x.0 ∷ rest.0, (x.1, rest.1))
 
-  item_meant : (d : Device) (earlier : List Item) (item : Item) (later : List Item) (ss : List Source) → AreMeant d (earlier ++ item ∷ later) ss → (s : Source) × Means d item.variable.text s
+  item_meant : (d : Device) (earlier : List Item) (item : Item) (later : List Item) (ss : List Source) → AreMeant d (earlier ++ item ∷ later) ss → (s : Source) × Denotes d item.variable.text s
   item_meant d [] item later [] m = absurd m
   item_meant d [] item later (s ∷ ss) m = (s, m.0)
   item_meant d (x ∷ earlier) item later [] m = absurd m
@@ -309,7 +309,7 @@ module _ (memories : Memories) where
       n.unmeant y.0 y.1
 
   abbrev NoMeaning : Device → Item → Type 0
-  NoMeaning d item = (s : Source) → Means d item.variable.text s → ⊥
+  NoMeaning d item = (s : Source) → Denotes d item.variable.text s → ⊥
 
   first_once : (d d' : Device) → SameDevice d d' → (e e' : List Item) (i i' : Item) (l l' : List Item) (ss ss' : List Source) → e ++ i ∷ l ≡ e' ++ i' ∷ l' → AreMeant d e ss → AreMeant d' e' ss' → NoMeaning d i → NoMeaning d' i' → i ≡ i'
   first_once d d' h [] [] i i' l l' ss ss' same m m' n n' = cc
@@ -317,12 +317,12 @@ module _ (memories : Memories) where
   first_once d d' h [] (x ∷ e') i i' l l' ss (s ∷ ss') same m m' n n' =
       let head : i ≡ x = cc in
       let y = means_there d' d (turned d d' h) x.variable.text s m'.0 in
-      absurd (n y.0 (subst (λ (z : Item). Means d z.variable.text y.0) (sym head) y.1))
+      absurd (n y.0 (subst (λ (z : Item). Denotes d z.variable.text y.0) (sym head) y.1))
   first_once d d' h (x ∷ e) [] i i' l l' [] ss' same m m' n n' = absurd m
   first_once d d' h (x ∷ e) [] i i' l l' (s ∷ ss) ss' same m m' n n' =
       let head : x ≡ i' = cc in
       let y = means_there d d' h x.variable.text s m.0 in
-      absurd (n' y.0 (subst (λ (z : Item). Means d' z.variable.text y.0) head y.1))
+      absurd (n' y.0 (subst (λ (z : Item). Denotes d' z.variable.text y.0) head y.1))
   first_once d d' h (x ∷ e) (x' ∷ e') i i' l l' [] ss' same m m' n n' = absurd m
   first_once d d' h (x ∷ e) (x' ∷ e') i i' l l' (s ∷ ss) [] same m m' n n' = absurd m'
   first_once d d' h (x ∷ e) (x' ∷ e') i i' l l' (s ∷ ss) (s' ∷ ss') same m m' n n' =

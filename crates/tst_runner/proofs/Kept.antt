@@ -9,7 +9,7 @@ use Rattle.script_device.specs.declared.device.Device as code
 use Rattle.tst_runner.specs.declared.standing.State.{State}
 use Rattle.script_device.specs.Machines.{RunningMachine}
 use Rattle.script_device.specs.Machines as machines
-use Rattle.script_device.specs.Devices.{Device, HasRom, Source, Means, after_set, after_eval, after_tick, after_tock, whole_memory, with_image}
+use Rattle.script_device.specs.Devices.{Device, HasRom, Source, Denotes, after_set, after_eval, after_tick, after_tock, whole_memory, with_image}
 use Rattle.script_device.specs.Devices.Device.{Empty, Chip, Machine}
 use Rattle.script_device.specs.Devices.Source.{TheTime, OfChip, OfMachine}
 use Rattle.tst_runner.specs.declared.lines.Column.{Column}
@@ -20,7 +20,7 @@ use Rattle.tst_runner.specs.Inner.States.{IsState}
 
 -- what a text stands for it stands for afterwards
 abbrev pub Keeps : Device → Device → Type 0
-Keeps d d' = (text : List ℕ) (source : Source) → Means d text source → Means d' text source
+Keeps d d' = (text : List ℕ) (source : Source) → Denotes d text source → Denotes d' text source
 
 Keeps-chip : (chip : LoadedChip) (calls calls' : List Call) → Keeps (Chip chip calls) (Chip chip calls')
 Keeps-chip chip calls calls' text TheTime h = h
@@ -58,7 +58,7 @@ Keeps-tock (Machine machine) text meant h = Keeps-machine machine (machines.afte
 
 pub Keeps-image : (d : Device) (rom : HasRom d) (image : List ℕ) → Keeps d (with_image d rom image)
 Keeps-image d rom image text meant h =
-    let P : Device → Type 0 = λ x. Means x text meant in
+    let P : Device → Type 0 = λ x. Denotes x text meant in
     Keeps-chip rom.chip rom.calls (Load rom.block 0 (whole_memory image) ∷ rom.calls) text meant (subst P rom.is h)
 
 pub AreColumns-kept : (d d' : Device) → Keeps d d' → (items : List Item) (columns : List Column) → AreColumns d items columns → AreColumns d' items columns

@@ -6,7 +6,7 @@ use Rattle.std.proofs.lemmas.Grind.{flat_map-append}
 use Rattle.std.proofs.lemmas.List.{append-nil, append_assoc, take_more, take-append-drop}
 use Rattle.gate_sim.specs.Calls.{Call}
 use Rattle.script_columns.specs.Columns.{column_text, value_text}
-use Rattle.script_device.specs.Devices.{Device, Source, Means, SeesAll, value_of}
+use Rattle.script_device.specs.Devices.{Device, Source, Denotes, SeesAll, value_of}
 use Rattle.script_device.specs.Running.{CanSee, probe_source}
 use Rattle.script_parser.specs.declared.tree.Item.{Item}
 use Rattle.tst_runner.specs.declared.lines.Column.{Column}
@@ -78,5 +78,5 @@ column_behind d (y ∷ items) (x ∷ shown) item column all is = (all.0, column_
 split : (items : List Item) (i : ℕ) (item : Item) → i < length items → item ≡ get_or items i item → items ≡ take i items ++ item ∷ drop (i + 1) items
 split items i item h e = sym (take-append-drop i items) ∙ ap (λ t. take i items ++ t) (drop-cons items i item h ∙ ap (λ x. x ∷ drop (suc i) items) (sym e)) ∙ ap (λ n. take i items ++ item ∷ drop n items) (sym (add-one i))
 
-pub nameless_at : (d : Device) (items : List Item) (shown : List Column) (i : ℕ) (item : Item) → i < length items → item ≡ get_or items i item → AreColumns d (take i items) shown → ((source : Source) → Means d item.variable.text source → ⊥) → IsNameless d items item
+pub nameless_at : (d : Device) (items : List Item) (shown : List Column) (i : ℕ) (item : Item) → i < length items → item ≡ get_or items i item → AreColumns d (take i items) shown → ((source : Source) → Denotes d item.variable.text source → ⊥) → IsNameless d items item
 nameless_at d items shown i item h e are un = record { earlier = take i items; later = drop (i + 1) items; are = split items i item h e; meant = (sources shown, meant d (take i items) shown are); unmeant = un }

@@ -4,7 +4,7 @@ use Rattle.gate_sim.specs.Calls.{Call}
 use Rattle.script_columns.specs.declared.layout.Value.{Value}
 use Rattle.script_columns.specs.Columns.{column_text, head_column, value_text}
 use Rattle.script_parser.specs.declared.tree.Item.{Item}
-use Rattle.script_device.specs.Devices.{Device, Source, Means, SeesAll, value_of}
+use Rattle.script_device.specs.Devices.{Device, Source, Denotes, SeesAll, value_of}
 
 -- the names of the items
 abbrev pub head_line : List Item → List ℕ
@@ -21,7 +21,7 @@ abbrev pub AreMeant : Device → List Item → List Source → Type 0
 AreMeant device [] [] = Unit {0}
 AreMeant device [] (source ∷ sources) = ⊥
 AreMeant device (item ∷ items) [] = ⊥
-AreMeant device (item ∷ items) (source ∷ sources) = Means device item.variable.text source × AreMeant device items sources
+AreMeant device (item ∷ items) (source ∷ sources) = Denotes device item.variable.text source × AreMeant device items sources
 
 -- the first item whose variable stands for nothing
 pub record IsNameless (device : Device) (items : List Item) (item : Item) : Type 0 where
@@ -29,7 +29,7 @@ pub record IsNameless (device : Device) (items : List Item) (item : Item) : Type
   pub later : List Item
   pub are : items ≡ earlier ++ item ∷ later
   pub meant : (sources : List Source) × AreMeant device earlier sources
-  pub unmeant : (source : Source) → Means device item.variable.text source → ⊥
+  pub unmeant : (source : Source) → Denotes device item.variable.text source → ⊥
 
 -- the values of these sources
 abbrev pub values_of : Device → List Call → (ℕ → ℕ → Bool) → List Source → List Value

@@ -178,7 +178,7 @@ fn evaluated(
 {
     let directory = directory_of(alloc, library, top, &e)?;
     let Elab { net, .. } = e;
-    let _ = net.nodes();
+    net.ordered_law();
     let mut chip = driven_chip(alloc, net, directory, simplify)?;
     chip.eval();
     Ok(chip)

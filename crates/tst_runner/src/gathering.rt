@@ -95,9 +95,9 @@ fn next_new<'a>(
     requires tabled { ListsFiles places.now.names.now files.now }
     requires indexed { IsIndexed gathered.now }
     ensures { (told : Option Files) → MatchOption result (Leads (sources_of places.now told)
-        (reverse stack.old.items) gathered.now.entries [] gathered.now.entries)
+        (reverse stack.old.items) gathered.now.entries.items [] gathered.now.entries.items)
         (λ next. IsNext (sources_of places.now told)
-        (reverse stack.old.items) gathered.now.entries next.0 next.1 (reverse stack.new.items)) }
+        (reverse stack.old.items) gathered.now.entries.items next.0 next.1 (reverse stack.new.items)) }
 {
     'names: while let Some(name) = stack.pop() {
         if gathered.has(name.as_bytes()) {
@@ -228,7 +228,7 @@ fn gather_one<F: Shelf>(
     ensures loads { Loads
         (λ _. IsMore (sources_of places.now (F.state shelf.old).files) name
         (reverse stack.old.items)
-        gathered.old.entries (reverse stack.new.items) gathered.new.entries)
+        gathered.old.entries.items (reverse stack.new.items) gathered.new.entries.items)
         (IsRefusedAt (sources_of places.now (F.state shelf.old).files) name)
         ((F.state shelf.old).unfailing
         → LacksFileOf (sources_of places.now (F.state shelf.old).files) name)

@@ -2,7 +2,7 @@
 use Rattle.std.specs.Prelude.{◌≡◌, ℕ, zero, suc, ◌+◌, ◌≤◌, List, [], ◌∷◌, ◌++◌, sum_by, Option, Some, None, length, slice_get}
 use Rattle.hdl_tree.specs.declared.ends.End.{End}
 use Rattle.hdl_tree.specs.Chips.{Chips}
-use Rattle.hdl_flatten.specs.Inner.Stacks.{from_bottom}
+use Rattle.hdl_check.specs.Inner.Stacks.{from_bottom}
 use Rattle.hdl_flatten.specs.declared.plan.Plan.{Plan}
 use Rattle.hdl_flatten.specs.declared.plan.PartPlan.{PartPlan}
 use Rattle.hdl_flatten.specs.declared.flat.Growing.{Growing}

@@ -4,7 +4,7 @@ use Rattle.hdl_tree.specs.declared.tree.Part.{Part}
 use Rattle.hdl_tree.specs.declared.library.Entry.{Entry}
 use Rattle.hdl_tree.specs.Chips.{Chips, find_chip, parts_of}
 use Rattle.hdl_tree.specs.Writable.{is_among}
-use Rattle.hdl_flatten.specs.Inner.Stacks.{from_bottom}
+use Rattle.hdl_check.specs.Inner.Stacks.{from_bottom}
 use Rattle.hdl_check.specs.Locations.{IsFaultless}
 use Rattle.hdl_plans.specs.Plans.{IsSound}
 use Rattle.hdl_plans.specs.Planned.{plan_of}

@@ -12,7 +12,7 @@ use Rattle.hdl_plans.specs.Loops.{BitAt, bit_at, reaches_out}
 use Rattle.hdl_plans.specs.Ways.{Way, Depends, Joined, OwnCircle, JointsFit, TreeFits}
 use Rattle.hdl_loops.specs.Inner.Hops.{bit, input_of, output_of, HasHop, AllIn, IsDirect, IsWay}
 use Rattle.hdl_loops.specs.Inner.Ties.{In, Tie, ties_in, gather}
-use Rattle.hdl_loops.specs.Inner.Told.{HasConnection}
+use Rattle.hdl_loops.specs.Inner.Report.{HasConnection}
 use Rattle.hdl_loops.specs.Inner.Leaving.{IsLinked}
 use Rattle.hdl_loops.specs.Inner.Pairs.{has_pair}
 use Rattle.hdl_loops.specs.declared.hops.Hop.{Hop}

@@ -6,9 +6,9 @@ use Rattle.hdl_plans.specs.Loops.{IsLoop}
 use Rattle.hdl_loops.specs.Inner.Hops.{input_of, output_of}
 use Rattle.hdl_loops.specs.Inner.Knowing.{crosses, NestsAt}
 use Rattle.hdl_loops.specs.Inner.Stacked.{power}
-use Rattle.hdl_loops.specs.Inner.Told.{Trip, TripAmong, add_name, add_names}
+use Rattle.hdl_loops.specs.Inner.Report.{Trip, TripAmong, add_name, add_names}
 use Rattle.hdl_loops.specs.declared.hops.Hop.{Hop}
-use Rattle.hdl_loops.specs.declared.told.Passage.{Passage}
+use Rattle.hdl_loops.specs.declared.report.Passage.{Passage}
 use Rattle.hdl_loops.specs.declared.names.Task.{Task}
 use Rattle.hdl_loops.specs.declared.names.Task.TheVariants as tasks
 use Rattle.hdl_loops.specs.declared.known.Known.{Known}

@@ -4,7 +4,7 @@ use Rattle.std.proofs.lemmas.Result.{IfOk-weaker}
 use Rattle.hdl_check.specs.Whole.{chips_in}
 use Rattle.hdl_plans.specs.Loops.{IsLoop}
 use Rattle.hdl_loops.specs.Inner.Tasks.{AreTasks, Goes, way_tasks}
-use Rattle.hdl_loops.specs.Inner.Told.{names_of, add_name}
+use Rattle.hdl_loops.specs.Inner.Report.{names_of, add_name}
 use Rattle.hdl_loops.specs.declared.hops.Hop.{Hop}
 use Rattle.hdl_loops.specs.declared.names.Task.{Task}
 use Rattle.hdl_loops.proofs.Nesting.{not_zero, nests_fit}

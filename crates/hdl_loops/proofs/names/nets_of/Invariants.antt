@@ -1,7 +1,7 @@
 use Rattle.std.proofs.Common.{reverse}
 use Rattle.hdl_check.specs.Whole.{chips_in}
 use Rattle.hdl_plans.specs.Loops.{IsLoop}
-use Rattle.hdl_loops.specs.Inner.Told.{names_of, AreTold}
+use Rattle.hdl_loops.specs.Inner.Report.{names_of, AreTold}
 use Rattle.hdl_loops.specs.Inner.Tasks.{AreTasks, Goes, room, tasks_weight}
 use Rattle.hdl_loops.proofs.names.nets_of.Given as goal
 

@@ -4,7 +4,7 @@ use Rattle.hdl_check.proofs.Stages.{entry_there}
 use Rattle.hdl_tree.specs.Chips.{end_of}
 use Rattle.hdl_plans.specs.Loops.{IsLoop}
 use Rattle.hdl_loops.specs.Inner.Hops.{input_of, output_of}
-use Rattle.hdl_loops.specs.Inner.Told.{names_of}
+use Rattle.hdl_loops.specs.Inner.Report.{names_of}
 use Rattle.hdl_loops.specs.Inner.Tasks.{way_tasks, AreTasks, Goes, room, tasks_weight}
 use Rattle.hdl_loops.specs.declared.names.Task.{Task}
 use Rattle.hdl_loops.specs.declared.names.Task.TheVariants as tasks

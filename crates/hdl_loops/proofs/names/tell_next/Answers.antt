@@ -1,6 +1,6 @@
 use Rattle.std.proofs.Common.{◌≡◌, ◌++◌, ◌∷◌, [], List, subst}
 use Rattle.hdl_check.specs.Whole.{chips_in}
-use Rattle.hdl_loops.specs.Inner.Told.{names_of}
+use Rattle.hdl_loops.specs.Inner.Report.{names_of}
 use Rattle.hdl_loops.specs.Inner.Tasks.{IsSure}
 use Rattle.hdl_loops.specs.declared.names.Task.{Task}
 use Rattle.hdl_loops.specs.declared.names.Task.TheVariants as tasks

@@ -1,5 +1,5 @@
 use Rattle.std.proofs.Common.{◌++◌, ◌∷◌, [], ℕ, List, None, take, refl, sym, subst, inr}
-use Rattle.script_device.specs.Devices.{Means}
+use Rattle.script_device.specs.Devices.{Denotes}
 use Rattle.script_device.specs.Running.{Finds, probe_source}
 use Rattle.script_parser.specs.declared.tree.Item.{Item}
 use Rattle.tst_runner.specs.declared.lines.Column.{Column}
@@ -23,7 +23,7 @@ loop-item-preserved c = λ d s.
     let text = c.as_slice.result.now in
     let probe = c.in-Some.probe in
     let column : Column = record { layout = item.layout; probe = probe } in
-    let P : List ℕ → Type 0 = λ t. Means d t (probe_source probe) in
+    let P : List ℕ → Type 0 = λ t. Denotes d t (probe_source probe) in
     let Q : List Column → Type 0 = λ columns. AreColumns d (take i items ++ item ∷ []) columns in
     let R : List Item → Type 0 = λ its. AreColumns d its c.push.new.self.items in
     let means = subst P c.as_slice.ensures (subst (Finds d text) c.in-Some.is (c.in_ok-probe.ensures d s)) in

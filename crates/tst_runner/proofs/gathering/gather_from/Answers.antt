@@ -28,8 +28,8 @@ returns-in_err-gather_one-clause-loads g c =
     let others = reverse c.next_new.new.stack.items in
     let e = c.in_err-gather_one.field-0.0 in
     let stack' = reverse c.gather_one.new.stack.items in
-    let entries' = c.gather_one.new.gathered.entries in
-    let entries = c.chips.gathered.entries in
+    let entries' = c.gather_one.new.gathered.entries.items in
+    let entries = c.chips.gathered.entries.items in
     let good : Option Files → Unit {0} → Type 0 = λ files _. IsMore (sources_of places files) name others entries stack' entries' in
     let T : Option Files → Type 0 = λ files. Loads (good files) (IsRefusedAt (sources_of places files) name) (later → LacksFileOf (sources_of places files) name) (Err e) in
     let read = subst T c.chips.invariant.keeps.files c.in_err-gather_one.ensures.loads in
@@ -43,9 +43,9 @@ chips-smaller g c =
     let from = sources_of c.args.places.now told in
     let others = reverse c.next_new.new.stack.items in
     let stack' = reverse c.gather_one.new.stack.items in
-    let entries' = c.gather_one.new.gathered.entries in
-    let T : Option Files → Type 0 = λ files. IsMore (sources_of c.args.places.now files) c.in-Some.name others c.chips.gathered.entries stack' entries' in
-    fewer from (c.args.name.now ∷ []) (reverse c.chips.stack.items) c.chips.gathered.entries c.chips.invariant.leads c.in-Some.name c.in-Some.found others stack' entries'
+    let entries' = c.gather_one.new.gathered.entries.items in
+    let T : Option Files → Type 0 = λ files. IsMore (sources_of c.args.places.now files) c.in-Some.name others c.chips.gathered.entries.items stack' entries' in
+    fewer from (c.args.name.now ∷ []) (reverse c.chips.stack.items) c.chips.gathered.entries.items c.chips.invariant.leads c.in-Some.name c.in-Some.found others stack' entries'
     (c.in-Some.ensures told) (subst T c.chips.invariant.keeps.files c.in_ok-gather_one.ensures.loads)
 
 pub chips-preserved : goal.chips-preserved
@@ -54,11 +54,11 @@ chips-preserved g c =
     let from = sources_of c.args.places.now told in
     let others = reverse c.next_new.new.stack.items in
     let stack' = reverse c.gather_one.new.stack.items in
-    let entries' = c.gather_one.new.gathered.entries in
-    let T : Option Files → Type 0 = λ files. IsMore (sources_of c.args.places.now files) c.in-Some.name others c.chips.gathered.entries stack' entries' in
+    let entries' = c.gather_one.new.gathered.entries.items in
+    let T : Option Files → Type 0 = λ files. IsMore (sources_of c.args.places.now files) c.in-Some.name others c.chips.gathered.entries.items stack' entries' in
     record {
       leads =
-          turn from (c.args.name.now ∷ []) (reverse c.chips.stack.items) c.chips.gathered.entries c.chips.invariant.leads c.in-Some.name c.in-Some.found others stack' entries'
+          turn from (c.args.name.now ∷ []) (reverse c.chips.stack.items) c.chips.gathered.entries.items c.chips.invariant.leads c.in-Some.name c.in-Some.found others stack' entries'
           (c.in-Some.ensures told) (subst T c.chips.invariant.keeps.files c.in_ok-gather_one.ensures.loads);
       indexed = c.in_ok-gather_one.ensures.indexed;
       counts = c.in_ok-gather_one.ensures.counts ∙ c.chips.invariant.counts;
@@ -70,4 +70,4 @@ returns-clause-loads g c =
     let from = sources_of c.args.places.now (g.F.Shelf.state c.args.shelf.now).files in
     let first = c.args.name.now ∷ [] in
     let G : List Entry → Type 0 = λ entries. Gather from first [] entries in
-    subst G (sym c.into_entries.ensures) (all_taken from first (reverse c.chips.stack.items) c.chips.gathered.entries c.chips.invariant.leads (c.in_default.ensures (g.F.Shelf.state c.args.shelf.now).files))
+    subst G (sym c.into_entries.ensures) (all_taken from first (reverse c.chips.stack.items) c.chips.gathered.entries.items c.chips.invariant.leads (c.in_default.ensures (g.F.Shelf.state c.args.shelf.now).files))

@@ -8,11 +8,11 @@ use Rattle.tst_runner.proofs.gathering.gather_from.Given as goal
 
 abbrev pub invariant-chips : goal.invariant-chips
 invariant-chips g l = record {
-  leads : Leads (sources_of l.fn.places (g.F.Shelf.state l.fn.shelf).files) (l.fn.name ∷ []) [] (reverse l.stack.items) l.gathered.entries;
+  leads : Leads (sources_of l.fn.places (g.F.Shelf.state l.fn.shelf).files) (l.fn.name ∷ []) [] (reverse l.stack.items) l.gathered.entries.items;
   indexed : IsIndexed l.gathered;
   counts : g.F.Shelf.faults l.shelf ≡ g.F.Shelf.faults l.fn.shelf;
   keeps : Keeps (g.F.Shelf.state l.fn.shelf) (g.F.Shelf.state l.shelf);
 }
 
 abbrev pub decreases-chips : goal.decreases-chips
-decreases-chips g l = left l.gathered.entries (candidates l.places.names.now l.places.shipped.now)
+decreases-chips g l = left l.gathered.entries.items (candidates l.places.names.now l.places.shipped.now)

@@ -8,14 +8,14 @@ use Rattle.tst_runner.proofs.gathering.next_new.Goals as goal
 
 pub names-preserved-then-has : goal.names-preserved-then-has
 names-preserved-then-has c = λ files.
-    let entries = c.args.gathered.now.entries in
+    let entries = c.args.gathered.now.entries.items in
     let leads = on_pop (sources_of c.args.places.now files) (reverse c.args.stack.now.items) entries entries c.names.stack.items c.pop.new.self.items c.in-Some.name c.in-Some.ensures.items (c.names.invariant files) in
     let known = some_found (find_entry entries c.as_bytes.result.now) (sym c.has.ensures ∙ c.if-has.true) in
     past_known known.0 (ap (find_entry entries) (sym c.as_bytes.ensures) ∙ known.1) leads
 
 pub returns-in-Some-find_origin : goal.returns-in-Some-find_origin
 returns-in-Some-find_origin c = λ files.
-    let entries = c.args.gathered.now.entries in
+    let entries = c.args.gathered.now.entries.items in
     let leads = on_pop (sources_of c.args.places.now files) (reverse c.args.stack.now.items) entries entries c.names.stack.items c.pop.new.self.items c.in-Some.name c.in-Some.ensures.items (c.names.invariant files) in
     let none = none_found (find_entry entries c.as_bytes.result.now) (sym c.has.ensures ∙ c.if-has.false) in
     record {
@@ -26,7 +26,7 @@ returns-in-Some-find_origin c = λ files.
 
 pub names-preserved : goal.names-preserved
 names-preserved c = λ files.
-    let entries = c.args.gathered.now.entries in
+    let entries = c.args.gathered.now.entries.items in
     let from = sources_of c.args.places.now files in
     let leads = on_pop from (reverse c.args.stack.now.items) entries entries c.names.stack.items c.pop.new.self.items c.in-Some.name c.in-Some.ensures.items (c.names.invariant files) in
     let none = none_found (find_entry entries c.as_bytes.result.now) (sym c.has.ensures ∙ c.if-has.false) in
@@ -34,6 +34,6 @@ names-preserved c = λ files.
 
 pub returns : goal.returns
 returns c = λ files.
-    let entries = c.args.gathered.now.entries in
+    let entries = c.args.gathered.now.entries.items in
     let none : length c.pop.new.self.items ≡ 0 = omega (arith, c.pop.new.self.ok.0, c.in_default.ensures.cases.1) in
     at_bottom (sources_of c.args.places.now files) (reverse c.args.stack.now.items) entries entries c.names.stack.items c.pop.new.self.items c.in_default.ensures.items none (c.names.invariant files)

@@ -1,9 +1,9 @@
 use Rattle.std.proofs.Common.{ap, sym, ◌∙◌, List}
 use Rattle.std.specs.List.{list_any}
-use Rattle.hdl_loops.specs.Inner.Told.{is_passage}
-use Rattle.hdl_loops.specs.declared.told.Passage.{Passage}
+use Rattle.hdl_loops.specs.Inner.Report.{is_passage}
+use Rattle.hdl_loops.specs.declared.report.Passage.{Passage}
 use Rattle.hdl_loops.proofs.Passing.{any_inserted}
-use Rattle.hdl_loops.proofs.told.Told.note.Goals as goal
+use Rattle.hdl_loops.proofs.report.Report.note.Goals as goal
 
 pub returns-in-Ok-clause-passed : goal.returns-in-Ok-clause-passed
 returns-in-Ok-clause-passed c = λ chip n b m k h.

@@ -1,5 +1,5 @@
 use Rattle.std.proofs.Common.{◌≡◌, map, take}
-use Rattle.hdl_loops.proofs.told.copied.Given as goal
+use Rattle.hdl_loops.proofs.report.copied.Given as goal
 
 abbrev pub invariant-loop-name : goal.invariant-loop-name
 invariant-loop-name l = l.copies.items ≡ map (λ name. name.now) (take l.name-index l.names)

@@ -13,8 +13,8 @@ use Rattle.hdl_tree.specs.Behaviour.{width_of}
 use Rattle.hdl_plans.specs.Plans.{is_input}
 use Rattle.hdl_plans.specs.Loops.{BitAt, bit_at, AreDistinctBits, Feeds, peaks}
 use Rattle.hdl_plans.specs.Ways.{Chain}
-use Rattle.hdl_loops.specs.declared.told.Passage.{Passage}
-use Rattle.hdl_loops.specs.declared.told.Told.{Told}
+use Rattle.hdl_loops.specs.declared.report.Passage.{Passage}
+use Rattle.hdl_loops.specs.declared.report.Report.{Report}
 
 -- ---- connections
 
@@ -60,17 +60,17 @@ abbrev pub AllAmong : List (List ℕ) → List (List ℕ) → Type 0
 AllAmong [] told = Unit {0}
 AllAmong (x ∷ xs) told = (is_among x told ≡ true) × AllAmong xs told
 
-abbrev pub names_of : Told → List (List ℕ)
+abbrev pub names_of : Report → List (List ℕ)
 names_of told = map (λ name. name.now) told.names.keys
 
 abbrev pub is_passage : ℕ → List ℕ → ℕ → List ℕ → ℕ → Passage → Bool
 is_passage chip n b m k p = nat_eq chip p.chip && (bytes_eq n p.through.input.now && (nat_eq b p.through.bit && (bytes_eq m p.through.output.now && nat_eq k p.through.out)))
 
-abbrev pub was_passed : Told → ℕ → List ℕ → ℕ → List ℕ → ℕ → Bool
+abbrev pub was_passed : Report → ℕ → List ℕ → ℕ → List ℕ → ℕ → Bool
 was_passed told chip n b m k = list_any (is_passage chip n b m k) told.passed.keys
 
 -- no other way than this is noted beside those that were
-abbrev pub NotesOne : Told → Told → Passage → Type 0
+abbrev pub NotesOne : Report → Report → Passage → Type 0
 NotesOne old new p = (chip : ℕ) (n : List ℕ) (b : ℕ) (m : List ℕ) (k : ℕ) → was_passed new chip n b m k ≡ true → (was_passed old chip n b m k || is_passage chip n b m k p) ≡ true
 
 -- there is a way through the chip, all of whose nets are among these
@@ -78,5 +78,5 @@ abbrev pub TripAmong : Chips → Entry → List ℕ → ℕ → List ℕ → ℕ
 TripAmong chips chip n b m k told = (names : List (List ℕ)) × (Trip chips chip (bit_at [] n b) (bit_at [] m k) names) × AllAmong names told
 
 -- each way that is noted is a way, and its nets are reported
-abbrev pub AreTold : Chips → Told → Type 0
+abbrev pub AreTold : Chips → Report → Type 0
 AreTold chips told = (place : ℕ) (n : List ℕ) (b : ℕ) (m : List ℕ) (k : ℕ) → was_passed told place n b m k ≡ true → (chip : Entry) → slice_get chips.entries place ≡ Some chip → TripAmong chips chip n b m k (names_of told)

@@ -1,7 +1,7 @@
 //! The nets that are reported.
 
 ghost use Rattle.std.specs.Prelude.{◌≡◌, [], OnOk, IfOk, map};
-ghost use Rattle.hdl_loops.specs.Inner.Told.{names_of, was_passed, add_name, NotesOne};
+ghost use Rattle.hdl_loops.specs.Inner.Report.{names_of, was_passed, add_name, NotesOne};
 
 use crate::hops::Dependency;
 use hdl_tree::Name;
@@ -16,28 +16,28 @@ pub struct Passage<'a> {
 }
 
 /// The nets that are reported, in order, and the ways that are.
-pub struct Told<'a> {
+pub struct Report<'a> {
     names: IndexSet<&'a [u8]>,
     passed: IndexSet<Passage<'a>>,
 }
 
 // By hand, so that whoever drops one calls this.
-impl Drop for Told<'_> {
+impl Drop for Report<'_> {
     fn drop(self) {
-        let Told {
+        let Report {
             names: _,
             passed: _,
         } = self;
     }
 }
 
-impl<'a> Told<'a> {
+impl<'a> Report<'a> {
     /// None is reported yet.
-    pub(crate) fn new(alloc: Global) -> Told<'a>
+    pub(crate) fn new(alloc: Global) -> Report<'a>
         ensures names { names_of result ≡ [] }
         ensures passed { result.passed.keys ≡ [] }
     {
-        Told {
+        Report {
             names: IndexSet::new(alloc),
             passed: IndexSet::new(alloc),
         }
