@@ -167,11 +167,13 @@ module _ (sim : SimState) (w : Wiring) (image : List ℕ) (key : ℕ) (turns : L
 -- ---- a history, from what was given and counted
 
 pub followed : (g : GateMachine) (turns : List Turn) → All (λ t. t.answer ≡ Acted) turns → g.moves ≡ length turns → WasTold g.sim g.wiring g.image g.key turns
+    → (0 < length turns → g.tally.at ≡ spelled_number (value_in g.sim.values) g.wiring.pc)
     → ((keys : ℕ → ℕ) → ((c : ℕ) → IsKey (keys c)) → HoldsKeys keys 0 turns → AtMachine g.image g.tally g.heard keys (length turns)) → HasFollowed g turns
-followed g turns acted counts told by = record {
+followed g turns acted counts told read by = record {
   acted = acted;
   counts = counts;
   told = told;
+  read = read;
   shows = λ keys holds m wires less is.
       let n = length turns in
       let own = key_at g.key turns in
@@ -315,9 +317,10 @@ pub followed_more : (g g' : GateMachine) (sA sT : SimState) (key : ℕ) (turns :
     → g'.wiring ≡ g.wiring → g'.image ≡ g.image → g'.key ≡ key → g'.moves ≡ suc g.moves
     → (set : HasSet sA f.told.calls (HoldsKey g.wiring.keyboard key)) → StandsFor sT (Tick ∷ set.now) → StandsFor g'.sim (Tock ∷ Tick ∷ set.now)
     → (address : ℕ) (hears : Bool) → hears ≡ reads_key (slice_index g.image g.tally.at) (spelled_number (value_in sT.values) g.wiring.a) → g'.heard ≡ (if hears then suc g.heard else g.heard)
-    → address ≡ spelled_number (value_in g'.sim.values) g.wiring.pc → ((pc : ℕ → ℕ) (c : ℕ) → HasTallied g.tally pc c → pc (suc c) ≡ address → HasTallied g'.tally pc (suc c))
+    → address ≡ spelled_number (value_in g'.sim.values) g.wiring.pc → g'.tally.at ≡ address
+    → ((pc : ℕ → ℕ) (c : ℕ) → HasTallied g.tally pc c → pc (suc c) ≡ address → HasTallied g'.tally pc (suc c))
     → HasFollowed g' (turns ++ turn key Acted ∷ [])
-followed_more g g' sA sT key turns f netA netT netK word same_wiring same_image same_key more set stT stK address hears heard_is heard_count address_is tallies =
+followed_more g g' sA sT key turns f netA netT netK word same_wiring same_image same_key more set stT stK address hears heard_is heard_count address_is at_is tallies =
     let t = turn key Acted in
     let longer : length (turns ++ t ∷ []) ≡ suc (length turns) = one_longer turns t in
     let told' = told_more g.sim sA sT g'.sim g.wiring g.image g.key key turns netA netT netK word f.told set stT stK in
@@ -333,6 +336,7 @@ followed_more g g' sA sT key turns f netA netT netK word same_wiring same_image 
     (All-push (λ u. u.answer ≡ Acted) turns t f.acted refl)
     (more ∙ ap suc f.counts ∙ sym longer)
     (subst (λ x. WasTold g'.sim x g'.image g'.key (turns ++ t ∷ [])) (sym same_wiring) (subst (λ x. WasTold g'.sim g.wiring x g'.key (turns ++ t ∷ [])) (sym same_image) (subst (λ x. WasTold g'.sim g.wiring g.image x (turns ++ t ∷ [])) (sym same_key) told')))
+    (λ some. at_is ∙ address_is ∙ ap (λ (w : Wiring). spelled_number (value_in g'.sim.values) w.pc) (sym same_wiring))
     (λ keys words holds.
     subst (λ i. AtMachine i g'.tally g'.heard keys (length (turns ++ t ∷ []))) (sym same_image)
     (subst (λ c. AtMachine g.image g'.tally g'.heard keys c) (sym longer)
@@ -379,6 +383,15 @@ module _ (s0 sA sE : SimState) (w : Wiring) (image : List ℕ) (old key : ℕ) (
         stE.values (Eval ∷ set.now) refl set_values (subst (λ m. AreCallValues m (Eval ∷ set.now) set_values) (sym netE) vals) k (subst (λ (m : Net). k < length m.nodes) (sym netE) less)
         ∙ ap (set_values k) goes.eval.cycle
 
+    pc_read : ((c : ℕ) → IsKey (keys c)) → spelled_number (value_in sE.values) w.pc ≡ (machine_at image keys (length turns)).pc
+    pc_read words =
+        let n = length turns in
+        let own = own_values s0 w image old turns told keys in
+        spelled_same (value_in sE.values) (λ k. set_values k n) w.pc (λ i d less. eval_value _ ((readable_of s0.net w told.seen).nodes.pc i d less))
+        ∙ own.pc n ∙ ap (spelled_number (λ k. own.v k n)) told.seen.wired.pins.pc
+        ∙ spelled_is (λ k. own.v k n) 15 (told.seen.wired.at cpu_path (codes "pc"))
+        ∙ (shows_at image keys (suc n) (own_wires s0 w image old turns told keys) (own_is s0 w image old turns told keys words (suc n)) n (omega arith)).pc
+
     pub passes_parts : ((c : ℕ) → IsKey (keys c)) → (parts : List WiredPart) → w.parts ≡ Some parts → (before : Option (List ℕ)) (pending : List ℕ) (now' : Option (List ℕ)) (pending' : List ℕ) (answer : Put)
         → Passes before pending now' pending' (wired_text (value_in sE.values) parts) answer → PassesParts image keys (length turns) before pending now' pending' answer
     passes_parts words parts has before pending now' pending' answer passes = record {
@@ -393,6 +406,16 @@ module _ (s0 sA sE : SimState) (w : Wiring) (image : List ℕ) (old key : ℕ) (
       );
       passes = passes;
     }
+
+-- the address is read off these values too
+pub read_set : (g : GateMachine) (sA sE : SimState) (key : ℕ) (turns : List Turn) (f : HasFollowed g turns) → sA.net ≡ g.sim.net → sE.net ≡ g.sim.net → IsKey key
+    → (set : HasSet sA f.told.calls (HoldsKey g.wiring.keyboard key)) → StandsFor sE (Eval ∷ set.now) → g.tally.at ≡ spelled_number (value_in sE.values) g.wiring.pc
+read_set g sA sE key turns f netA netE word set stE =
+    let own = key_at key turns in
+    let words = key_words key turns word f.told.key_words in
+    let holds = holds_own key turns in
+    let past : own (length turns) ≡ key = ap own (let e : length turns ≡ length turns + 0 = omega arith in e) ∙ key_at_past key turns 0 in
+    (first g turns f own words holds).tallied.here ∙ sym (pc_read g.sim sA sE g.wiring g.image g.key key turns netA netE word f.told set stE own holds past words)
 
 -- ---- the start
 
@@ -416,4 +439,5 @@ followed_none g seen' ordered small stands held word moves heard tallied =
           let r = (start g.sim.net h.pin).1 (λ b a. 0) [] g.wiring.rom 0 g.image (start g.sim.net h.pin).0 in
           subst (λ l. Runs g.sim.net (record { pin = h.pin; loaded = l }) 0 (Load g.wiring.rom 0 g.image ∷ [])) (λ i b a. sym (comes.loaded b a) i) r;
     })
+    (λ some. absurd (omega (arith, some)))
     (λ keys words holds. record { tallied = tallied (machine_pc g.image keys) refl; listened = heard })

@@ -13,6 +13,8 @@ use Rattle.image_map.specs.Map.{the_map}
 use Rattle.image_map.specs.Tallies.{TallyState}
 use Rattle.image_map.specs.Turns.{HoldsKeys}
 use Rattle.hdl_tree.specs.Behaviour.{Histories}
+use Rattle.netlist.specs.Present.{value_in}
+use Rattle.netlist.specs.Value.{spelled_number}
 use Rattle.netlist.specs.Words.{word_at as stored_at}
 use Rattle.gate_sim.specs.State.{SimState}
 use Rattle.hack_cpu.specs.Computer.{pc_at, word_at}
@@ -52,13 +54,14 @@ pub record ShowsCycle (g : GateMachine) (keys : ℕ → ℕ) (wires : List ℕ �
   pub seen : point_at (trace_of_run g keys wires) n ≡ Some g.tally.point
   pub words : (a : ℕ) → a < keyboard → word_in g a ≡ word_at wires n a
 
--- It acted in each of these turns. Its simulator was given their keys, one in each cycle. Take every behaviour of the Computer that has its image,
--- holds these keys in its first cycles and goes on past them. It shows what is seen of that behaviour then. For all keys there are behaviours over
--- any number of cycles.
+-- It acted in each of these turns. Its simulator was given their keys, one in each cycle. From the first cycle on the address that it is at is what
+-- the pins pc spell in the simulator's values. Take every behaviour of the Computer that has its image, holds these keys in its first cycles and goes
+-- on past them. It shows what is seen of that behaviour then. For all keys there are behaviours over any number of cycles.
 pub record HasFollowed (g : GateMachine) (turns : List Turn) : Type 0 where
   pub acted : All (λ t. t.answer ≡ Acted) turns
   pub counts : g.moves ≡ length turns
   pub told : WasTold g.sim g.wiring g.image g.key turns
+  pub read : 0 < length turns → g.tally.at ≡ spelled_number (value_in g.sim.values) g.wiring.pc
   pub shows : (keys : ℕ → ℕ) → HoldsKeys keys 0 turns → (m : ℕ) (wires : List ℕ → Histories) → length turns < m → IsComputer g.image keys m wires → ShowsCycle g keys wires (length turns)
   pub behaves : (keys : ℕ → ℕ) → ((c : ℕ) → IsKey (keys c)) → (m : ℕ) → (wires : List ℕ → Histories) × IsComputer g.image keys m wires
 

@@ -56,7 +56,15 @@ impl Model for GateComputer {
 
     ghost Value = { GateMachine };
 
-    ghost view = { λ g. record { sim = g.sim; wiring = g.wiring; image = g.image; tally = g.tally; key = g.key; moves = g.moves; heard = g.heard } };
+    ghost view = { λ g. record {
+      sim = g.sim;
+      wiring = g.wiring;
+      image = g.image;
+      tally = g.tally;
+      key = g.key;
+      moves = g.moves;
+      heard = g.heard;
+    } };
 
     ghost invariant = { λ g. IsKeptWell g.sim.net g.wiring g.tally.steps g.heard g.moves };
 }
@@ -90,8 +98,7 @@ impl GateComputer {
     {
         let Image { words, map } = image;
         let WiredComputer { net, wiring } = wired;
-        // They are in order.
-        let _ = net.nodes();
+        net.ordered_law();
         let mut sim = Sim::new(alloc, net)?;
         sim.load_block(wiring.rom, 0, words.as_slice());
         words_fit(words.as_slice());

@@ -60,8 +60,8 @@ pub(crate) fn simple_shows(whole: &WiredComputer, simple: &WiredComputer)
     requires simple { IsSimpleOf whole.now.net whole.now.wiring simple.now.net simple.now.wiring }
     ensures { ShowsComputer simple.now.net simple.now.wiring }
 {
-    let _ = whole.net.nodes();
-    let _ = simple.net.nodes();
+    whole.net.ordered_law();
+    simple.net.ordered_law();
 }
 
 /// The netlist of the Computer itself shows it.
@@ -69,5 +69,5 @@ pub(crate) fn whole_shows(whole: &WiredComputer)
     requires { IsWired whole.now.net whole.now.wiring }
     ensures { ShowsComputer whole.now.net whole.now.wiring }
 {
-    let _ = whole.net.nodes();
+    whole.net.ordered_law();
 }

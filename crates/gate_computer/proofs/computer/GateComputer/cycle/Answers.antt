@@ -46,4 +46,4 @@ returns-clause-stands c turns h =
     followed_more g _ c.set_keyboard.new.sim c.tick.new.self c.args.key turns f netA netT netK (omega arith) refl refl refl (add-one c.self.inside.moves) set stT stK
     c.number_at.result c.hears_key-hears.result heard_is c.counted-self-inside.ensures
     (c.number_at.ensures ∙ ap (spelled_number (value_in c.tock.new.self.values)) c.as_slice-4.ensures)
-    c.go.ensures.tallied
+    c.go.ensures.at c.go.ensures.tallied

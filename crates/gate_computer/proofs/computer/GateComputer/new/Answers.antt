@@ -34,7 +34,7 @@ returns-clause-stands c =
     let net = c.load_block.ensures.net ∙ c.in_ok-sim.ensures.net in
     rw c.words.view_is (followed_none _
     (subst (λ m. ShowsComputer m c.args.wired.wiring) (sym net) c.requires.shows)
-    (subst (λ (m : Net). AreOrdered m.nodes m.blocks) (sym net) c.nodes.ensures.ordered)
+    (subst (λ (m : Net). AreOrdered m.nodes m.blocks) (sym net) c.ordered_law.ensures)
     (λ a. subst (λ l. slice_index l a < 65536) c.as_slice-2.ensures (c.words_fit.ensures a))
     (subst (λ l. StandsFor c.load_block.new.self (Load c.args.wired.wiring.rom 0 l ∷ [])) c.as_slice.ensures (c.load_block.ensures.stands [] c.in_ok-sim.ensures.stands))
     (record { bits = λ j less. sym (no_bit j); others = λ k out. refl })

@@ -6,7 +6,7 @@ use Rattle.gate_computer.specs.Calls.{HoldsKey}
 use Rattle.gate_computer.specs.Inner.Told.{HasSet}
 use Rattle.gate_computer.specs.Inner.Readable.{IsReadable}
 use Rattle.gate_computer.specs.Followed.{GateMachine, HasFollowed, PassesParts}
-use Rattle.gate_computer.proofs.Following.{first, followed, told_set, passes_parts}
+use Rattle.gate_computer.proofs.Following.{first, followed, told_set, read_set, passes_parts}
 use Rattle.gate_computer.proofs.computer.GateComputer.put_nets.Goals as goal
 
 pub invariant_of-self : goal.invariant_of-self
@@ -24,7 +24,8 @@ returns-clause-stands g c turns h =
     let set = subst (λ l. HasSet c.set_keyboard.new.sim f.told.calls (HoldsKey l c.args.key)) c.as_slice.ensures
     (c.set_keyboard.ensures.told f.told.calls f.told.stands (subst (λ l. HoldsKey l c.self.inside.key (pins_of c.self.inside.sim.net.nodes f.told.calls)) (sym c.as_slice.ensures) f.told.held)) in
     let told = told_set c.self.inside.sim c.set_keyboard.new.sim c.eval.new.self c.self.inside.wiring c.self.inside.image c.self.inside.key c.args.key turns netA netE (omega arith) f.told set (c.eval.ensures.stands set.now set.stands) in
-    followed _ turns f.acted f.counts told (λ keys words holds. first (the_view c.self.inside) turns f keys words holds)
+    followed _ turns f.acted f.counts told (λ some. read_set (the_view c.self.inside) c.set_keyboard.new.sim c.eval.new.self c.args.key turns f netA netE (omega arith) set (c.eval.ensures.stands set.now set.stands))
+    (λ keys words holds. first (the_view c.self.inside) turns f keys words holds)
 
 pub returns-clause-passes : goal.returns-clause-passes
 returns-clause-passes g c turns h keys words holds now =
