@@ -45,7 +45,14 @@ impl Drop for Hack {
 impl Model for Hack {
     ghost Value = { LoadedMachine };
 
-    ghost view = { λ h. record { image = h.image.items; a = h.a; d = h.d; pc = h.pc; ram = h.ram.items; moves = h.moves } };
+    ghost view = { λ h. record {
+      image = h.image.items;
+      a = h.a;
+      d = h.d;
+      pc = h.pc;
+      ram = h.ram.items;
+      moves = h.moves;
+    } };
 
     ghost invariant = { λ h. (length h.ram.items ≡ keyboard) × (h.pc < 32768) };
 }

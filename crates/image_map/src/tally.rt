@@ -47,7 +47,12 @@ impl Model for Tally {
 
     ghost Value = { TallyState };
 
-    ghost view = { λ t. record { map = t.map; at = t.at; steps = t.steps; point = point_seen t.map.points t.seen } };
+    ghost view = { λ t. record {
+      map = t.map;
+      at = t.at;
+      steps = t.steps;
+      point = point_seen t.map.points t.seen;
+    } };
 
     ghost invariant = { λ t. IsMarked t.marks.items t.map t.mapped };
 }

@@ -9,7 +9,7 @@ use Rattle.jack_core.specs.Texts.{the_statement, the_block}
 use Rattle.jack_compiler.specs.Templates.{first_number, no_else}
 use Rattle.jack_compiler.specs.Lines.{Around, quiet, if_false, if_end, while_exp, into_if, into_else, into_while, out_of_while, expression_lines, statement_lines, text_lines, ifs_of, ifs_in, whiles_of, whiles_in}
 use Rattle.jack_compiler.specs.declared.bodies.Body.{Body}
-use Rattle.jack_compiler.specs.Added.{Adds, AddsText}
+use Rattle.jack_compiler.specs.Inner.Added.{Adds, AddsText}
 
 four : {A : Type 0} (l0 l1 l2 l3 l4 p q r s : List A) → l1 ≡ l0 ++ p → l2 ≡ l1 ++ q → l3 ≡ l2 ++ r → l4 ≡ l3 ++ s → l4 ≡ l0 ++ (p ++ (q ++ (r ++ s)))
 four l0 l1 l2 l3 l4 p q r s a b c d =

@@ -13,7 +13,7 @@ use Rattle.jack_core.specs.declared.program.Subroutine.{Subroutine as TheSubrout
 use Rattle.jack_core.specs.Texts.{the_class, the_subroutine, the_program, names_of, class_names_of}
 use Rattle.jack_compiler.specs.Lines.{Around}
 use Rattle.jack_compiler.specs.Files.{statics_before, function_of, functions_of, file_of, class_file, files_from, program_files, files_of, around_class, name_at}
-use Rattle.jack_compiler.specs.Added.{no_file, with_more, AddsFunction, AreFiles}
+use Rattle.jack_compiler.specs.Inner.Added.{no_file, with_more, AddsFunction, AreFiles}
 use Rattle.jack_compiler.specs.Inner.Hollow.{is_wanted, whole_if, whole_where}
 use Rattle.jack_compiler.proofs.Hollow.{whole_none, class_same, length_whole, whole_last, whole_rest}
 

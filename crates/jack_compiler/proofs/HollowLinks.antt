@@ -12,7 +12,7 @@ use Rattle.vm_link.specs.declared.linked.Linked.{Linked}
 use Rattle.vm_link.specs.Sections.{Section, is_named, called_name, sections}
 use Rattle.vm_link.specs.Faults as faults
 use Rattle.vm_link.specs.Faults.{sys_init, first_of, first_repeat, label_twice, no_label, lacking, no_start, kept_fault, text_fault, too_many, words_before}
-use Rattle.vm_link.specs.Marks.{is_marked}
+use Rattle.vm_link.specs.Inner.Marks.{is_marked}
 use Rattle.vm_link.specs.Reached as reached_by
 use Rattle.vm_link.specs.Reached.{Reached, Keeps, none, kept, dropped, IsFunction, AreKept}
 use Rattle.vm_link.specs.Resolved as resolved_files

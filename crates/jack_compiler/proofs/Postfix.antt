@@ -12,7 +12,7 @@ use Rattle.jack_core.specs.Reading.{the_expression, arguments_of, put, build_exp
 use Rattle.jack_core.proofs.Postfix.{enough, behind, put_length, spells}
 use Rattle.jack_compiler.specs.Templates.{count}
 use Rattle.jack_compiler.specs.Lines.{Around, commit, expression_lines, arguments_lines}
-use Rattle.jack_compiler.specs.Postfix.{part_lines, parts_lines}
+use Rattle.jack_compiler.specs.Inner.Postfix.{part_lines, parts_lines}
 
 pub count_is : (es : List AnExpression) → count (arguments_of es) ≡ length es
 count_is [] = refl

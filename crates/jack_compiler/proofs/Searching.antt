@@ -4,7 +4,7 @@ use Rattle.std.specs.List.{Contains}
 use Rattle.std.proofs.lemmas.List.{append-nil, reverse-append, take-append-drop, take_more}
 use Rattle.std.proofs.lemmas.List.Elements.{Contains-append_cases, Contains-append_left, Contains-append_right, Contains-push, Contains-push_cases}
 use Rattle.std.proofs.lemmas.Bool.{cases_lt}
-use Rattle.vm_link.specs.Marks.{is_marked, waits}
+use Rattle.vm_link.specs.Inner.Marks.{is_marked, waits}
 use Rattle.vm_link.proofs.Marking.{⊎_by, marks_one, marks_none, marks_then, marks_as, marked_now, marked_below, waits_last, waits_more, waits_from}
 use Rattle.jack_meaning.specs.Text.{Expression as AnExpression, Text, Subroutine, Program}
 use Rattle.jack_meaning.specs.Meaning.{subroutine_at}

@@ -1,5 +1,5 @@
 //! The commands of statements.
-ghost use Rattle.std.specs.Prelude.{◌≡◌, ◌+◌, ◌++◌, ◌∷◌, [], OnOk, IfOk, ℕ, decimal, suc};
+ghost use Rattle.std.specs.Prelude.{◌≡◌, ◌≤◌, ◌+◌, ◌^◌, ◌++◌, ◌∷◌, [], OnOk, MatchResult, ℕ, decimal, suc};
 ghost use Rattle.jack_core.specs.Reading.{the_expression};
 ghost use Rattle.jack_core.specs.Texts.{the_statement, the_block};
 ghost use Rattle.jack_meaning.specs.Text.{Store, If, While};
@@ -7,9 +7,9 @@ ghost use Rattle.vm_tree.specs.declared.command.Command.TheVariants as command;
 ghost use Rattle.jack_compiler.specs.Templates.{first_number, no_else};
 ghost use Rattle.jack_compiler.specs.Lines.{into_if, into_else, into_while, out_of_while, store_lines, expression_lines, statement_lines, text_lines, ifs_of, ifs_in, whiles_of, whiles_in};
 ghost use Rattle.jack_compiler.specs.Lines.{quiet as quiet_line, commit as commit_line};
-ghost use Rattle.jack_compiler.specs.Surroundings.{the_around};
+ghost use Rattle.jack_compiler.specs.Inner.Surroundings.{the_around};
 ghost use Rattle.jack_compiler.specs.Inner.Named.{Names, NamesIn, NamesText};
-ghost use Rattle.jack_compiler.specs.Added.{last_command, Adds, AddsText};
+ghost use Rattle.jack_compiler.specs.Inner.Added.{last_command, Adds, AddsText};
 
 use crate::expressions::{Around, add_expression, pop_variable};
 use crate::lines::{add_goto, add_if_goto, add_label, commit, quiet};
@@ -26,9 +26,9 @@ pub struct Body {
     pub whiles: u32,
 }
 
-// This many choices or loops, and one more, where 32 bits count them.
+// This many choices or loops, and one more. Memory is wanted only where 32 bits do not count them.
 fn one_more(count: u32) -> Result<u32, AllocError>
-    ensures { IfOk result (λ n. n ≡ suc count) }
+    ensures { MatchResult result (λ n. n ≡ suc count) (λ _. 2 ^ 32 ≤ suc count) }
 {
     count.checked_add(1).ok_or(AllocError)
 }

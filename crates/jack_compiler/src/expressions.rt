@@ -2,9 +2,9 @@
 ghost use Rattle.std.specs.Prelude.{◌≡◌, ◌+◌, ◌++◌, ◌∷◌, [], OnOk, IfOk, ◌<◌, length, map};
 ghost use Rattle.jack_core.specs.Reading.{the_variable, the_sign, the_operator, the_expression};
 ghost use Rattle.jack_compiler.specs.Lines.{sign_command, operator_command, push_variable, pop_variable, literal_lines, load_lines, expression_lines};
-ghost use Rattle.jack_compiler.specs.Postfix.{part_lines};
+ghost use Rattle.jack_compiler.specs.Inner.Postfix.{part_lines};
 ghost use Rattle.jack_compiler.specs.Files.{name_at};
-ghost use Rattle.jack_compiler.specs.Surroundings.{the_around};
+ghost use Rattle.jack_compiler.specs.Inner.Surroundings.{the_around};
 ghost use Rattle.jack_compiler.specs.Inner.Named.{Names, NamesPart, NamesVariable};
 
 use crate::lines::{commit, quiet};

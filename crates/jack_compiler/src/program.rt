@@ -1,12 +1,12 @@
 //! The VM program of a program with resolved names.
-ghost use Rattle.std.specs.Prelude.{◌≡◌, ◌+◌, ◌++◌, ◌∷◌, ◌<◌, ℕ, [], OnOk, IfOk, map, length, slice_index, slice_get, drop, get_or, false, option_map};
+ghost use Rattle.std.specs.Prelude.{◌≡◌, ◌+◌, ◌^◌, ◌++◌, ◌∷◌, ◌<◌, ◌≤◌, ℕ, [], OnOk, IfOk, MatchResult, map, length, slice_index, slice_get, drop, get_or, false, option_map};
 ghost use Rattle.jack_core.specs.Texts.{the_class, the_kind, the_subroutine, names_of, class_names_of};
 ghost use Rattle.jack_compiler.specs.Lines.{object_lines};
 ghost use Rattle.jack_compiler.specs.Files.{files_of, statics_before};
-ghost use Rattle.jack_compiler.specs.Added.{AddsFunction, AreFiles};
+ghost use Rattle.jack_compiler.specs.Inner.Added.{AddsFunction, AreFiles};
 ghost use Rattle.jack_compiler.specs.Files.{file_of as file_made, function_of as function_made};
 ghost use Rattle.jack_compiler.specs.Inner.Hollow.{is_wanted, whole_if, whole_where, hollow_files};
-ghost use Rattle.jack_compiler.specs.Surroundings.{the_around};
+ghost use Rattle.jack_compiler.specs.Inner.Surroundings.{the_around};
 ghost use Rattle.jack_compiler.specs.Inner.Named.{NamesAll};
 ghost use Rattle.jack_compiler.specs.Resolved.{IsResolvedCore};
 
@@ -50,9 +50,9 @@ fn function_of(around: &Around<'_>, number: usize, sub: &Subroutine) -> Result<F
     })
 }
 
-// A sum, where 32 bits have it.
+// A sum. Memory is wanted only where 32 bits do not have it.
 fn sum(a: u32, b: u32) -> Result<u32, AllocError>
-    ensures { IfOk result (λ n. n ≡ a + b) }
+    ensures { MatchResult result (λ n. n ≡ a + b) (λ _. 2 ^ 32 ≤ a + b) }
 {
     a.checked_add(b).ok_or(AllocError)
 }

@@ -1,6 +1,6 @@
 //! The subroutines that a program can come to.
 ghost use Rattle.std.specs.Prelude.{◌≡◌, ◌∷◌, [], ℕ, false, length, OnOk, IfOk};
-ghost use Rattle.vm_link.specs.Marks.{is_marked};
+ghost use Rattle.vm_link.specs.Inner.Marks.{is_marked};
 ghost use Rattle.jack_meaning.specs.Linked.{calls, statement_calls, text_calls};
 ghost use Rattle.jack_core.specs.Reading.{the_expression};
 ghost use Rattle.jack_core.specs.Texts.{the_program, the_statement, the_block};

@@ -11,7 +11,7 @@ use Rattle.jack_core.specs.Heights.{takes, height}
 use Rattle.jack_core.specs.Reading.{make_expression, build_expressions}
 use Rattle.jack_machine.specs.Parts.{parts_of, wanted_in, wanted_count}
 use Rattle.jack_machine.specs.Looks.{the_view, passed_values, spared_values, move_of, Sees}
-use Rattle.jack_machine.specs.Fronts.{IsPut, IsFilled}
+use Rattle.jack_machine.specs.Inner.Fronts.{IsPut, IsFilled}
 use Rattle.jack_machine.specs.Texts.{written_statement, written_first, begun_text, waiting, the_expressions, the_after}
 use Rattle.jack_machine.specs.Effects.{act_of, outcome_on, HasEffect}
 use Rattle.jack_machine.specs.Frames.{with_text, the_frame, state_over, the_state, IsLeft, IsNext, Applies, TopStep, StoresAt, called_state}

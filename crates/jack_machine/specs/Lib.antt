@@ -1,6 +1,5 @@
 pub mod Parts
 pub mod Looks
-pub mod Fronts
 pub mod Texts
 pub mod Effects
 pub mod Frames

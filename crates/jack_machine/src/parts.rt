@@ -3,7 +3,7 @@
 ghost use Rattle.std.specs.Prelude.{◌≡◌, ◌++◌, Some, OnOk, OnErr, slice_get};
 ghost use Rattle.jack_core.specs.Heights.{takes};
 ghost use Rattle.jack_machine.specs.Parts.{parts_in, parts_of};
-ghost use Rattle.jack_machine.specs.Fronts.{IsPut, IsSameFront, IsFilled, IsBegun};
+ghost use Rattle.jack_machine.specs.Inner.Fronts.{IsPut, IsSameFront, IsFilled, IsBegun};
 
 use crate::fronts::{First, Front};
 use jack_core::{Expression, Part, Statement};

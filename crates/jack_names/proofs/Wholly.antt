@@ -2,6 +2,7 @@
 use Rattle.std.proofs.Common.{◌≡◌, ℕ, suc, ◌+◌, Bool, true, false, not, ◌&&◌, ◌==◌, if◌then◌else◌, List, [], ◌∷◌, ◌++◌, map, Option, Some, None, length, slice_get, codes, refl, sym, ap, subst, ◌∙◌, append-nil, add-zero, arith}
 use Rattle.std.proofs.lemmas.List.{map-append, length-map}
 use Rattle.std.specs.Str.{bytes_eq}
+use Rattle.scan_text.specs.Text.{nowhere}
 use Rattle.jack_tree.specs.Syntax as tree
 use Rattle.jack_tree.specs.Seen.{the_parameter, the_subroutine, the_class, the_file}
 use Rattle.jack_tree.specs.declared.tree.Subroutine.{Subroutine}
@@ -100,7 +101,7 @@ module _ (own os : List tree.ClassFile) (sy : symbol.Symbols) (classes : (x : Li
   -- the call that the program begins with
   start_same : whole.start_fault sy ≡ file_faults own os plain.start_file
   start_same =
-      let m : plain.Made = plain.by_class (codes "Sys") (codes "init") 0 plain.nowhere in
+      let m : plain.Made = plain.by_class (codes "Sys") (codes "init") 0 nowhere in
       let b : Option NameDiagnostic = body_faults own os plain.start_file.source plain.start_body in
       made_same own os plain.start_file.source m (whole.start_scope sy) (λ g. refl) (sy.class (codes "Sys")) (class_of own os (codes "Sys")) refl (classes (codes "Sys"))
       ∙ sym (first_none b ∙ first_none (made own os plain.start_file.source m))

@@ -2,10 +2,11 @@
 -- program is the classes of a folder, in the order of their files' names, and those of the operating system. Types are not looked up where they
 -- are declared, and are not checked. That the search of the code finds just these, the first of them first, is the law of names.
 use Rattle.std.specs.Prelude.{◌≡◌, ◌<◌, ℕ, suc, Bool, true, false, List, [], ◌++◌, map, Option, Some, None, length, codes, slice_get}
+use Rattle.scan_text.specs.Text.{nowhere}
 use Rattle.scan_text.specs.declared.Place.{Place}
 use Rattle.jack_tree.specs.Syntax as tree
 use Rattle.jack_names.specs.Faults.{NameDiagnostic, Source, diagnostic_in}
-use Rattle.jack_names.specs.Using.{find_named, Variable, members, inner, Made, made_calls, Use, OfVariable, OfFront, OfCall, OfThis, Body, File, source, files, classes, nowhere}
+use Rattle.jack_names.specs.Using.{find_named, Variable, members, inner, Made, made_calls, Use, OfVariable, OfFront, OfCall, OfThis, Body, File, source, files, classes}
 use Rattle.jack_names.specs.declared.fault.NameKind.{NameKind}
 use Rattle.jack_names.specs.declared.fault.NameKind.TheVariants as kinds
 use Rattle.jack_names.specs.declared.scope.Way.{Way}

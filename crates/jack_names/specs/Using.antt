@@ -2,6 +2,7 @@
 -- Those are of Math for the operators * and /, of String for a string, of Memory for a constructor, and of Sys.init for the start.
 use Rattle.std.specs.Prelude.{ℕ, ◌+◌, Bool, true, false, List, [], ◌∷◌, ◌++◌, map, Option, Some, None, if◌then◌else◌, codes}
 use Rattle.std.specs.Str.{bytes_eq}
+use Rattle.scan_text.specs.Text.{nowhere}
 use Rattle.scan_text.specs.declared.Place.{Place}
 use Rattle.jack_tree.specs.Syntax as tree
 use Rattle.jack_names.specs.Faults.{Source}
@@ -167,10 +168,6 @@ source shipped c = record { shipped = shipped; file = c.file }
 
 abbrev pub file : Bool → tree.ClassFile → File
 file shipped c = record { source = source shipped c; bodies = map (body c.class) c.class.subroutines }
-
--- the place of what no text names
-abbrev pub nowhere : Place
-nowhere = record { line = 0; column = 0 }
 
 -- The program begins by a call of Sys.init, whose place is before all else in that file.
 abbrev pub start_body : Body

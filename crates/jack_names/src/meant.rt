@@ -1,6 +1,6 @@
 //! The expressions that trees mean. Their parts are pushed onto one vector, in postfix order.
 
-ghost use Rattle.std.specs.Prelude.{◌≡◌, ◌≤◌, ◌∷◌, [], length, map, IfOk, OnOk};
+ghost use Rattle.std.specs.Prelude.{◌≡◌, ◌≤◌, ◌^◌, ◌∷◌, [], length, map, IfOk, MatchResult, OnOk};
 ghost use Rattle.jack_meaning.specs.Text.{Expression as AnExpression, Call as CallOf, Literal as LiteralOf};
 ghost use Rattle.jack_core.specs.Heights.{takes};
 ghost use Rattle.jack_core.specs.Reading.{make_expression, the_expression, the_sign};
@@ -239,9 +239,9 @@ fn push_term<'a>(
 }
 
 // How many arguments a call passes. A call without faults passes what its subroutine takes, which is never more than 16 bits
-// can count.
+// can count. Memory is wanted only where they cannot.
 fn passed(arguments: usize) -> Result<u16, AllocError>
-    ensures { IfOk result (λ n. n ≡ arguments) }
+    ensures { MatchResult result (λ n. n ≡ arguments) (λ _. 2 ^ 16 ≤ arguments) }
 {
     if arguments > 65_535 {
         return Err(AllocError);

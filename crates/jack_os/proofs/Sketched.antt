@@ -2,6 +2,7 @@
 use Rattle.std.proofs.Common.{◌≡◌, List, [], ◌∷◌, Some, None, map, refl, ap, sym, ◌∙◌, Bor, Vec, Global}
 use mathlib.Core.Former.{Count}
 use Rattle.grammar.specs.Rules.{Pair, Skip, Node, Left, Right, Absent, Present, NoMore, More, tree_of_list}
+use Rattle.scan_text.specs.Text.{nowhere}
 use Rattle.jack_tree.specs.declared.token.Keyword.TheVariants as keyword
 use Rattle.jack_tree.specs.declared.tree.Name.{Name}
 use Rattle.jack_tree.specs.declared.tree.Parameter.{Parameter}
@@ -13,7 +14,7 @@ use Rattle.jack_parser.specs.ClassTrees.{next_name_tree, parameter_tree, next_pa
 use Rattle.jack_parser.proofs.Blocks.{while_is, if_is}
 use Rattle.jack_os.specs.declared.sketch.ExpressionSketch.{ExpressionSketch}
 use Rattle.jack_os.specs.declared.sketch.StatementSketch as sketches
-use Rattle.jack_os.specs.Inner.Made.{Jack, nowhere, word_of, enclosed_term, row, more_of, parameters_of, if_then, if_else, while_loop}
+use Rattle.jack_os.specs.Inner.Made.{Jack, word_of, enclosed_term, row, more_of, parameters_of, if_then, if_else, while_loop}
 use Rattle.jack_os.specs.Inner.Sketched.{expression, statement, all}
 
 pub row_is : {X : Type 0} (tree : X → Jack) (xs : List X) → tree_of_list tree xs NoMore ≡ row (map tree xs)

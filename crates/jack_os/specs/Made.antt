@@ -1,11 +1,7 @@
 -- Abstract syntax without a text: its names and keywords have no place (book, chapter 10, figure 10.5).
 use Rattle.std.specs.Prelude.{ℕ, List, [], ◌∷◌, Option, Some, None, codes}
-use Rattle.scan_text.specs.declared.Place.{Place}
+use Rattle.scan_text.specs.Text.{nowhere}
 use Rattle.jack_tree.specs.Syntax.{Name, Operator, Integer, Expression, Terms, NoOperation, Then, Term, Value, Variable, Element, Calls, NoExpression, More, Statement, Let, If, IfElse, While, Do, Return, Statements, End, Next, ValueType, Object, Locals, Parameter, Function, Subroutine}
-
--- the place of what stands in no text
-abbrev pub nowhere : Place
-nowhere = record { line = 0; column = 0 }
 
 abbrev pub name_of : List ℕ → Name
 name_of text = record { text = text; place = nowhere }

@@ -47,7 +47,7 @@ member_kept gs k g x near at (j, low, here) other = there (cases_place j k)
         (j - 1, omega (arith, short), get_or-remove_above gs k x (j - 1) (omega arith) near ∙ ap (λ i. get_or gs i x) next ∙ here)
 
 -- numbers that are all there, and apart, have no greater sum
-sum_within : (h : ℕ → ℕ) (ns gs : List ℕ) → AllPairs (λ x y. x ≢ y) ns → ((x : ℕ) → Contains ns x → Contains gs x) → sum_by h ns ≤ sum_by h gs
+pub sum_within : (h : ℕ → ℕ) (ns gs : List ℕ) → AllPairs (λ x y. x ≢ y) ns → ((x : ℕ) → Contains ns x → Contains gs x) → sum_by h ns ≤ sum_by h gs
 sum_within h [] gs apart there = omega arith
 sum_within h (n ∷ ns) gs apart there =
     let (k, near, at) = there n (0, omega arith, refl) in

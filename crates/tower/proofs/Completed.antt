@@ -18,7 +18,7 @@ use Rattle.jack_tree.specs.declared.tree.Class.{Class}
 use Rattle.jack_tree.specs.Syntax.{Subroutine, ClassFile}
 use Rattle.jack_tree.specs.Seen.{the_name, the_scope, the_variables, the_locals, the_parameter, the_subroutine, the_file}
 use Rattle.jack_compiler.proofs.Resolving.{and_first, and_second}
-use Rattle.jack_lexer.specs.Tokens.{is_name_byte}
+use Rattle.grammar.specs.Words.{is_name_byte}
 use Rattle.jack_parser.specs.Grammar.{Said, Fixed, Placed}
 use Rattle.jack_parser.specs.ClassTrees.{subroutine_tree as code_tree}
 use Rattle.jack_parser.proofs.PlainTrees.{subroutine_tree}

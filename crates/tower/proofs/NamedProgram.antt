@@ -5,6 +5,7 @@ use Rattle.std.specs.List.{All}
 use Rattle.std.proofs.lemmas.Bool.{lt-ltb, ltb-true, and_from, and_parts}
 use Rattle.std.proofs.lemmas.List.{map-append, length-map, length-append, append-nil}
 use Rattle.std.proofs.lemmas.List.Elements.{All-append, All-get_or}
+use Rattle.scan_text.specs.Text.{nowhere}
 use Rattle.vm_link.specs.Faults.{sys_init}
 use Rattle.jack_meaning.specs.Text.{Program}
 use Rattle.jack_meaning.specs.Text.{Subroutine as Meant, Class as MeantClass}
@@ -19,7 +20,7 @@ use Rattle.jack_names.specs.Inner.Scopes.{signature_kind, made_kind}
 use Rattle.jack_names.specs.Symbols.{Symbols, symbols_of, objects}
 use Rattle.jack_names.specs.Limits.{AreWithin}
 use Rattle.jack_names.specs.Inner.Meant.{number_by}
-use Rattle.jack_names.specs.Inner.Whole.{declared_fault, main_fault, uses_fault, os_fault, start_scope, start_fault, system_file, no_place, all_statics, all_uses_fault, WellNamed, start_subroutine, subroutines_meant, all_subroutines_meant, class_meant, found_by, program_meant, names_meant, all_names_meant}
+use Rattle.jack_names.specs.Inner.Whole.{declared_fault, main_fault, uses_fault, os_fault, start_scope, start_fault, system_file, all_statics, all_uses_fault, WellNamed, start_subroutine, subroutines_meant, all_subroutines_meant, class_meant, found_by, program_meant, names_meant, all_names_meant}
 use Rattle.jack_names.specs.declared.scope.Way.TheVariants as way
 use Rattle.jack_names.specs.declared.scope.Signature.{Signature}
 use Rattle.tower.specs.Read.{AreReadClasses}
@@ -177,7 +178,7 @@ module _ (own os : List Class) where
     init_is : IsInit program.init
     init_is =
         init_by (symbols.class (codes "Sys")) refl
-        (made_none system_file (codes "Sys") (codes "init") no_place (made_kind (start_scope symbols) way.ByClass (codes "init") 0 (symbols.class (codes "Sys"))) init_none)
+        (made_none system_file (codes "Sys") (codes "init") nowhere (made_kind (start_scope symbols) way.ByClass (codes "init") 0 (symbols.class (codes "Sys"))) init_none)
 
     is_resolved : IsResolved program (all_names_meant own os)
     is_resolved = record {

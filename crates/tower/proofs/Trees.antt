@@ -11,7 +11,7 @@ use Rattle.jack_tree.specs.declared.token.Keyword.TheVariants as keyword
 use Rattle.jack_tree.specs.declared.token.Kind.{Kind}
 use Rattle.jack_tree.specs.declared.token.Kind.TheVariants as kind
 use Rattle.jack_tree.specs.Tokens.{Word}
-use Rattle.jack_lexer.specs.Tokens.{is_name_byte}
+use Rattle.grammar.specs.Words.{is_name_byte}
 use Rattle.jack_parser.specs.declared.counts.Counted.{Counted}
 use Rattle.jack_parser.specs.declared.counts.Counted.TheVariants as counted
 use Rattle.jack_parser.specs.declared.counts.Counts.{Counts}

@@ -17,7 +17,8 @@ use Rattle.jack_tree.specs.declared.token.Keyword.{Keyword}
 use Rattle.jack_tree.specs.declared.token.Kind.{Kind}
 use Rattle.jack_tree.specs.declared.token.Kind.TheVariants as kind
 use Rattle.jack_tree.specs.Tokens.{Word, keyword_of}
-use Rattle.jack_lexer.specs.Tokens.{piece, close, tokens_of, token_of, kind_of, word_piece, number_piece, symbol_piece, text_piece, is_letter, is_sign, is_name_byte, is_text_byte}
+use Rattle.grammar.specs.Words.{is_letter, is_name_byte}
+use Rattle.jack_lexer.specs.Tokens.{piece, close, tokens_of, token_of, kind_of, word_piece, number_piece, symbol_piece, text_piece, is_sign, is_text_byte}
 use Rattle.tower.specs.Read.{IsName}
 
 abbrev pub IsAsciiText : List ℕ → Type 0

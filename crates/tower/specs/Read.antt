@@ -4,7 +4,7 @@
 use Rattle.std.specs.Prelude.{◌≡◌, ◌<◌, ◌≤◌, ℕ, true, List, [], ◌∷◌, Option, Some, None, length}
 use Rattle.std.specs.List.{All}
 use Rattle.jack_tree.specs.Seen.{unbox}
-use Rattle.jack_lexer.specs.Tokens.{is_name_byte}
+use Rattle.grammar.specs.Words.{is_name_byte}
 use Rattle.jack_tree.specs.declared.tree.Constant.{Constant}
 use Rattle.jack_tree.specs.declared.tree.Constant.TheVariants as constant
 use Rattle.jack_tree.specs.declared.tree.Call.{Call, Call', Row_of-Expression, end_of-Expression, more_of-Expression}

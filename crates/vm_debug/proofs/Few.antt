@@ -1,18 +1,17 @@
 -- Linked files have few static words, what is linked has no fault, and its places are those of its classes.
-use Rattle.std.proofs.Common.{◌≡◌, ◌≢◌, ◌+◌, ◌-◌, ◌^◌, ◌≤◌, ℕ, suc, Bool, true, false, cond, List, [], ◌∷◌, Option, Some, None, Ok, Err, option_map, length, min, refl, sym, ap, subst, arith, add-one, nat_lt}
+use Rattle.std.proofs.Common.{◌≡◌, ◌≢◌, ◌+◌, ◌-◌, ◌≤◌, ℕ, suc, Bool, false, List, [], ◌∷◌, Ok, Err, option_map, length, refl, sym, ap, subst, arith, add-one}
 use Rattle.std.specs.Prelude.{IfOk, Result, sum_by}
-use Rattle.std.specs.Option.{option_or}
-use Rattle.std.proofs.lemmas.Bool.{ltb-false}
 use Rattle.std.proofs.lemmas.List.Sums.{sum_by-cons}
 use Rattle.image_map.specs.declared.map.ImageMap.{ImageMap}
 use Rattle.jack_tree.specs.declared.tree.Class.{Class}
 use Rattle.vm_tree.specs.declared.program.File.{File}
+use Rattle.vm_link.proofs.LinkLemmas.{words_few, last_none}
 use Rattle.vm_link.proofs.Once.{linked_once}
 use Rattle.vm_link.specs.declared.fault.LinkFault.{LinkFault}
-use Rattle.vm_link.specs.declared.fault.LinkFault.TheVariants.{Memory, NoFunction, TooManyStatics}
+use Rattle.vm_link.specs.declared.fault.LinkFault.TheVariants.{Memory, NoFunction}
 use Rattle.vm_link.specs.declared.linked.Linked.{Linked}
 use Rattle.vm_link.specs.declared.linked.LinkedFile.{LinkedFile}
-use Rattle.vm_link.specs.Faults.{file_words, first_of, no_function, too_many, words_before}
+use Rattle.vm_link.specs.Faults.{file_words, first_of, no_function, words_before}
 use Rattle.vm_link.specs.Links.{Links, whole}
 use Rattle.vm_link.specs.Resolved.{files_from}
 use Rattle.vm_link.specs.Sections.{Section, sections}
@@ -21,18 +20,6 @@ use Rattle.jack_compiler.specs.Files.{files_of}
 use Rattle.jack_debug.specs.declared.places.Places.{Places}
 use Rattle.vm_debug.specs.Places.{the_places}
 use Rattle.vm_debug.specs.Program.{ArePlacesOfClasses}
-
--- where no fault is found, the words of all files are at most 240
-words_few : (n : ℕ) → too_many n ≡ None → n ≤ 240
-words_few n e = by_test (nat_lt 240 n) (λ f. ltb-false 240 n f) e
-  where
-    by_test : (b : Bool) → (b ≡ false → n ≤ 240) → cond b (Some (TooManyStatics (min n (2 ^ 64 - 1)))) None ≡ None → n ≤ 240
-    by_test true f e = absurd cc
-    by_test false f e = f refl
-
-last_none : {A : Type 0} (o p : Option A) → option_or o p ≡ None → p ≡ None
-last_none None p e = e
-last_none (Some x) p e = absurd cc
 
 -- the words of linked files, the first of which has number k, come after those of the files before
 files_sum : (kept : List Section) (k : ℕ) (fs : List File) → words_before kept k + sum_by (λ f. f.statics) (files_from kept k fs) ≡ words_before kept (k + length fs)

@@ -2,7 +2,7 @@
 use Rattle.std.proofs.Common.{◌≡◌, ◌+◌, ℕ, suc, Bool, true, false, List, [], ◌∷◌, length, refl, sym, subst, arith, add-zero}
 use Rattle.vm_link.specs.Sections.{Section}
 use Rattle.vm_link.specs.Reached.{Reached, Keeps, none, kept, dropped, AreKept}
-use Rattle.vm_link.specs.Marks.{is_marked, selected_sections, AreReached}
+use Rattle.vm_link.specs.Inner.Marks.{is_marked, selected_sections, AreReached}
 
 no_true : {b : Bool} → b ≡ false → b ≡ true → ⊥
 no_true e f = absurd cc

@@ -10,7 +10,7 @@ use Rattle.vm_link.specs.Sections.{Section, sections_from, file_sections, functi
 use Rattle.vm_link.specs.Faults.{words_before, file_words, words_of_lines, too_many, kept_fault, text_fault, first_of, no_function}
 use Rattle.vm_link.specs.Reached.{Keeps, kept, dropped, none, AreKept, Reached}
 use Rattle.vm_link.proofs.Marking.{⊎_by}
-use Rattle.vm_link.specs.Words.{AreBases, AreFitting}
+use Rattle.vm_link.specs.Inner.Words.{AreBases, AreFitting}
 
 -- each file is below n
 AllBelow : ℕ → List Section → Type 0
@@ -77,14 +77,14 @@ words_rise ss k (suc n) h = ⊎_by (cases_eq k n)
     (λ other. let ih = words_rise ss k n (omega arith) in omega arith)
 
 -- where no fault is found, the words of all files are at most 240
-words_few : (n : ℕ) → too_many n ≡ None → n ≤ 240
+pub words_few : (n : ℕ) → too_many n ≡ None → n ≤ 240
 words_few n e = by_test (nat_lt 240 n) (λ f. ltb-false 240 n f) e
   where
     by_test : (b : Bool) → (b ≡ false → n ≤ 240) → cond b (Some (TooManyStatics (min n (2 ^ 64 - 1)))) None ≡ None → n ≤ 240
     by_test true f e = absurd cc
     by_test false f e = f refl
 
-last_none : {A : Type 0} (o p : Option A) → option_or o p ≡ None → p ≡ None
+pub last_none : {A : Type 0} (o p : Option A) → option_or o p ≡ None → p ≡ None
 last_none None p e = e
 last_none (Some x) p e = absurd cc
 

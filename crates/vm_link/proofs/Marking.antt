@@ -10,8 +10,8 @@ use Rattle.vm_link.specs.Sections as sections
 use Rattle.vm_link.specs.Sections.{Section, calls, stands_in, is_named}
 use Rattle.vm_link.specs.Faults.{sys_init}
 use Rattle.vm_link.specs.Reached.{Reached, IsFunction, start, called}
-use Rattle.vm_link.specs.Maps.{Numbers, number, AreNumbers}
-use Rattle.vm_link.specs.Marks.{is_marked, waits, unmarked_count, Marks, AreCalling, AreReached, IsNumber, AreBelow}
+use Rattle.vm_link.specs.Inner.Maps.{Numbers, number, AreNumbers}
+use Rattle.vm_link.specs.Inner.Marks.{is_marked, waits, unmarked_count, Marks, AreCalling, AreReached, IsNumber, AreBelow}
 
 pub ⊎_by : {A B C : Type 0} → A ⊎ B → (A → C) → (B → C) → C
 ⊎_by (inl a) f g = f a

@@ -4,7 +4,7 @@ use Rattle.std.specs.Option.{option_or}
 use Rattle.std.specs.Str.{bytes_eq}
 use Rattle.std.specs.List.{list_any, position_from, cons_option}
 use Rattle.std.proofs.lemmas.Slice.Eq.{bytes_eq-Decides}
-use Rattle.vm_link.specs.Maps.{Numbers, number}
+use Rattle.vm_link.specs.Inner.Maps.{Numbers, number}
 use Rattle.vm_link.specs.Sections.{stands_in, has_name, label, labels}
 use Rattle.vm_link.specs.Resolved.{label_place, steps}
 use Rattle.vm_link.specs.Faults.{first_of, lacking}

@@ -4,7 +4,7 @@ use Rattle.std.specs.Prelude.{◌==◌}
 use Rattle.std.proofs.lemmas.Bool.{cases_eq, eq-eqb, ne_eqb}
 use Rattle.vm_link.specs.Sections.{Section}
 use Rattle.vm_link.specs.Faults.{words_before, file_words}
-use Rattle.vm_link.specs.Words.{AreBases}
+use Rattle.vm_link.specs.Inner.Words.{AreBases}
 use Rattle.vm_link.proofs.Marking.{⊎_by}
 
 pub index_front : (xs ys : List ℕ) (k : ℕ) → k < length xs → slice_index (xs ++ ys) k ≡ slice_index xs k

@@ -1,8 +1,8 @@
 //! The sections that are kept.
 ghost use Rattle.std.specs.Prelude.{◌≡◌, IfOk, false, length};
 ghost use Rattle.vm_link.specs.Reached.{AreKept};
-ghost use Rattle.vm_link.specs.Marks.{selected_sections};
-ghost use Rattle.vm_link.specs.Maps.{AreNumbers, all_seen};
+ghost use Rattle.vm_link.specs.Inner.Marks.{selected_sections};
+ghost use Rattle.vm_link.specs.Inner.Maps.{AreNumbers, all_seen};
 
 use crate::numbers::Numbers;
 use crate::reach::reached;

@@ -6,8 +6,8 @@ ghost use Rattle.vm_link.specs.Faults.{sys_init, kept_fault, too_many, words_bef
 ghost use Rattle.vm_link.specs.Resolved.{files_from, function_of, is_marked, linked_of};
 ghost use Rattle.vm_link.specs.Links.{Links};
 ghost use Rattle.vm_link.specs.Sound.{IsSound};
-ghost use Rattle.vm_link.specs.Words.{AreBases, AreFitting, AreWords, IsFitting};
-ghost use Rattle.vm_link.specs.Maps.{AreNumbers, all_seen, seen_section};
+ghost use Rattle.vm_link.specs.Inner.Words.{AreBases, AreFitting, AreWords, IsFitting};
+ghost use Rattle.vm_link.specs.Inner.Maps.{AreNumbers, all_seen, seen_section};
 
 use crate::keep::keep;
 use crate::numbers::{Numbers, function_numbers};

@@ -4,7 +4,7 @@ ghost use Rattle.std.specs.Option.{option_or};
 ghost use Rattle.std.specs.Str.{bytes_eq};
 ghost use Rattle.vm_link.specs.Faults.{first_repeat};
 ghost use Rattle.vm_link.specs.Resolved.{label_place, first_place};
-ghost use Rattle.vm_link.specs.Maps.{number, texts, seen_section, all_seen, AreNumbers};
+ghost use Rattle.vm_link.specs.Inner.Maps.{number, texts, seen_section, all_seen, AreNumbers};
 
 use crate::section::{Part, label};
 use std::alloc::{AllocError, Global};

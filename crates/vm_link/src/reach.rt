@@ -1,7 +1,7 @@
 //! The functions that are reached by calls.
 ghost use Rattle.std.specs.Prelude.{◌≡◌, ◌<◌, ℕ, true, false, length, IfOk, OnOk, option_map};
-ghost use Rattle.vm_link.specs.Marks.{AreBelow, AreCalling, AreReached, IsNumber, Marks, is_marked};
-ghost use Rattle.vm_link.specs.Maps.{AreNumbers, all_seen};
+ghost use Rattle.vm_link.specs.Inner.Marks.{AreBelow, AreCalling, AreReached, IsNumber, Marks, is_marked};
+ghost use Rattle.vm_link.specs.Inner.Maps.{AreNumbers, all_seen};
 
 use crate::numbers::Numbers;
 use crate::section::{Part, called};

@@ -4,7 +4,7 @@ ghost use Rattle.std.specs.List.{filter_map};
 ghost use Rattle.vm_link.specs.Sections.{Section};
 ghost use Rattle.vm_link.specs.Faults.{static_words, words_at, words_before, words_of_lines};
 ghost use Rattle.vm_link.specs.Resolved.{code_of, entry_of, first_statement, function_of, index_in, step_of};
-ghost use Rattle.vm_link.specs.Maps.{AreNumbers, Tells, number, seen_section};
+ghost use Rattle.vm_link.specs.Inner.Maps.{AreNumbers, Tells, number, seen_section};
 
 use crate::numbers::{Numbers, label_places};
 use crate::section::Part;

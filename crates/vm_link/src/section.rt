@@ -1,8 +1,8 @@
 //! The sections of a program, and the names in them.
-ghost use Rattle.std.specs.Prelude.{◌≡◌, ◌+◌, ◌++◌, OnOk, IfOk, option_map, length};
+ghost use Rattle.std.specs.Prelude.{◌≡◌, ◌≤◌, ◌+◌, ◌^◌, ◌++◌, OnOk, IfOk, MatchResult, option_map, length};
 ghost use Rattle.vm_link.specs.Sections.{file_sections, functions_from, function_section, opening_section, sections, called_name, target, label, labels};
 ghost use Rattle.vm_link.specs.Faults.{names};
-ghost use Rattle.vm_link.specs.Maps.{seen_section, all_seen, texts};
+ghost use Rattle.vm_link.specs.Inner.Maps.{seen_section, all_seen, texts};
 
 use std::alloc::{AllocError, Global};
 use vm_tree::{Command, File, Function, Line};
@@ -17,9 +17,11 @@ pub struct Part<'a> {
     pub lines: &'a [Line],
 }
 
-// The number of the next section. Sections of texts within their limits are fewer than do not fit (`count_laws`).
+// The number of the next section. Memory is wanted only where 32 bits do not have it. Sections of texts within their
+// limits are fewer (`count_laws`).
 fn next_number(parts: &[Part<'_>]) -> Result<u32, AllocError>
-    ensures { IfOk result (λ n. n ≡ length parts.now + 1) }
+    ensures { MatchResult result (λ n. n ≡ length parts.now + 1)
+        (λ _. 2 ^ 32 ≤ length parts.now + 1) }
 {
     if parts.len() < u32::MAX as usize {
         Ok(parts.len() as u32 + 1)

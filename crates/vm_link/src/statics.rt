@@ -2,8 +2,8 @@
 ghost use Rattle.std.specs.Prelude.{◌≡◌, ◌-◌, ◌^◌, [], List, IfOk, length, min};
 ghost use Rattle.vm_link.specs.Sections.{Section};
 ghost use Rattle.vm_link.specs.Faults.{static_words, words_at, words_of_lines, file_words, words_before};
-ghost use Rattle.vm_link.specs.Words.{AreWords, AreBases};
-ghost use Rattle.vm_link.specs.Maps.{all_seen};
+ghost use Rattle.vm_link.specs.Inner.Words.{AreWords, AreBases};
+ghost use Rattle.vm_link.specs.Inner.Maps.{all_seen};
 
 use crate::section::Part;
 use std::alloc::{AllocError, Global};

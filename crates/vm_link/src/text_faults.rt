@@ -3,7 +3,7 @@ ghost use Rattle.std.specs.Prelude.{◌≡◌, IfOk, List, option_map};
 ghost use Rattle.std.specs.List.{list_any};
 ghost use Rattle.vm_link.specs.Sections.{Section, called_name, is_named, target};
 ghost use Rattle.vm_link.specs.Faults.{sys_init, first_of, lacking, label_twice, no_label, no_function, no_start, text_fault};
-ghost use Rattle.vm_link.specs.Maps.{seen_section, all_seen, AreNumbers, has_number};
+ghost use Rattle.vm_link.specs.Inner.Maps.{seen_section, all_seen, AreNumbers, has_number};
 
 use crate::LinkFault;
 use crate::numbers::{Numbers, first_repeat, label_places};

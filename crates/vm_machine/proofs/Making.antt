@@ -10,7 +10,7 @@ use Rattle.vm_tree.specs.declared.command.Operation.TheVariants.{Add, Sub, Neg, 
 use Rattle.vm_machine.specs.State.{Frame, State, words_in_use}
 use Rattle.vm_machine.specs.Step.{Outcome, Acts, Strays, Full, after, goes, on_top, on_two, operate, fit_outcome}
 use Rattle.vm_machine.specs.Moves.{Makes, Words, state_of}
-use Rattle.vm_machine.specs.Performs.{takes_one, word_of}
+use Rattle.vm_machine.specs.Inner.Performs.{takes_one, word_of}
 use Rattle.vm_machine.specs.Calls.{Calls}
 use Rattle.std.proofs.lemmas.Bool.Decides.{nat_tests}
 

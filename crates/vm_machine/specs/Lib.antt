@@ -5,5 +5,5 @@ pub mod Sound
 pub mod Laws
 pub mod Calls
 pub mod Moves
-pub mod Performs
 pub mod Loaded
+pub mod Inner

@@ -4,7 +4,7 @@ ghost use Rattle.word16.specs.Words.{word_add};
 ghost use Rattle.vm_machine.specs.State.{State, words_in_use};
 ghost use Rattle.vm_machine.specs.Step.{Acts, after, act, begin, call, goes, load, on_top, on_word, operate, pop, push, push_outcome, return, store, write_outcome};
 ghost use Rattle.vm_tree.specs.declared.command.Segment.{Segment};
-ghost use Rattle.vm_machine.specs.Performs.{Performs, takes_one, word_of};
+ghost use Rattle.vm_machine.specs.Inner.Performs.{Performs, takes_one, word_of};
 
 use crate::memory::Memory;
 use crate::stack::{ROOM, Stack};
@@ -41,7 +41,10 @@ fn give(machine: &mut Machine, n: usize, w: u16) -> Moved
 fn take(machine: &mut Machine, place: usize) -> Moved
     requires { 1 ≤ length machine.old.stack.top.values }
     ensures acts { result ≡ Moved.Acted }
-    ensures top { machine.new.stack.top ≡ record machine.old.stack.top { place = place; values = drop 1 machine.old.stack.top.values } }
+    ensures top { machine.new.stack.top ≡ record machine.old.stack.top {
+      place = place;
+      values = drop 1 machine.old.stack.top.values;
+    } }
     ensures below { machine.new.stack.below ≡ machine.old.stack.below }
     ensures memory { machine.new.memory ≡ machine.old.memory }
     ensures room { words_in_use (machine.new.stack.top ∷ machine.new.stack.below) ≤ 1792 }

@@ -28,7 +28,11 @@ impl Drop for Memory {
 impl Model for Memory {
     ghost Value = { Words };
 
-    ghost view = { λ m. record { statics = m.statics.items; temps = m.temps.items; heap_and_screen = m.words.items } };
+    ghost view = { λ m. record {
+      statics = m.statics.items;
+      temps = m.temps.items;
+      heap_and_screen = m.words.items;
+    } };
 
     ghost invariant = { λ m. (length m.words.items ≡ heap_and_screen_size)
         × (length m.statics.items ≡ 240) × (length m.temps.items ≡ 8) };
@@ -43,7 +47,11 @@ fn zeros(alloc: Global, n: usize) -> Result<Vec<u16>, AllocError>
 impl Memory {
     /// All words 0.
     pub fn new(alloc: Global) -> Result<Memory, AllocError>
-        ensures { IfOk result (λ m. m ≡ record { statics = replicate 240 0; temps = replicate 8 0; heap_and_screen = replicate heap_and_screen_size 0 }) }
+        ensures { IfOk result (λ m. m ≡ record {
+          statics = replicate 240 0;
+          temps = replicate 8 0;
+          heap_and_screen = replicate heap_and_screen_size 0;
+        }) }
     {
         Ok(Memory {
             statics: zeros(alloc, 240)?,
@@ -65,7 +73,9 @@ impl Memory {
     pub fn set_word(&mut self, a: u16, w: u16)
         requires from { heap ≤ a }
         requires below { a < keyboard }
-        ensures { self.new ≡ record self.old { heap_and_screen = slice_set self.old.heap_and_screen (a - heap) w } }
+        ensures { self.new ≡ record self.old {
+          heap_and_screen = slice_set self.old.heap_and_screen (a - heap) w;
+        } }
     {
         self.words[(a - HEAP) as usize] = w;
     }

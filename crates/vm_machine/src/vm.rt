@@ -40,7 +40,12 @@ impl Drop for Vm {
 impl Model for Vm {
     ghost Value = { LoadedVm };
 
-    ghost view = { λ v. record { linked = v.linked; state = state_of v.machine.stack v.machine.memory; moves = v.moves; steps = v.steps } };
+    ghost view = { λ v. record {
+      linked = v.linked;
+      state = state_of v.machine.stack v.machine.memory;
+      moves = v.moves;
+      steps = v.steps;
+    } };
 
     ghost invariant = { λ v. v.steps ≤ v.moves };
 }

@@ -1,7 +1,7 @@
 -- The VM program of some subroutines: the others have their places and names there, and no commands.
 use Rattle.std.specs.Prelude.{ℕ, ◌+◌, Bool, true, false, List, [], ◌∷◌, Option, Some, None}
 use Rattle.vm_tree.specs.declared.program.File.{File}
-use Rattle.vm_link.specs.Marks.{is_marked}
+use Rattle.vm_link.specs.Inner.Marks.{is_marked}
 use Rattle.jack_meaning.specs.Text.{Function, End, Subroutine, Program}
 use Rattle.jack_core.specs.declared.program.Core.{Core}
 use Rattle.jack_core.specs.Texts.{the_program, names_of, class_names_of}

@@ -1,7 +1,7 @@
 -- The search for the subroutines that a program can come to.
 use Rattle.std.specs.Prelude.{◌≡◌, ◌<◌, ◌⊎◌, ◌++◌, ℕ, Bool, true, List, [], ◌∷◌, length}
 use Rattle.std.specs.List.{Contains}
-use Rattle.vm_link.specs.Marks.{is_marked, waits, Marks}
+use Rattle.vm_link.specs.Inner.Marks.{is_marked, waits, Marks}
 use Rattle.jack_meaning.specs.Text.{Program}
 use Rattle.jack_meaning.specs.Meaning.{subroutine_at}
 use Rattle.jack_meaning.specs.Linked.{text_calls, IsLinked}

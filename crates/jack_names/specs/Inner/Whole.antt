@@ -2,7 +2,7 @@
 -- fault. The classes of the folder come first, in order of file name, and those of the operating system after them (book, chapters 11 and 12).
 use Rattle.std.specs.Prelude.{◌≡◌, ℕ, ◌+◌, ◌-◌, max, Bool, true, false, List, [], ◌∷◌, ◌++◌, map, Option, Some, None, length, codes, if◌then◌else◌, nat_eq, ◌&&◌, slice_get}
 use Rattle.std.specs.Str.{bytes_eq}
-use Rattle.scan_text.specs.declared.Place.{Place}
+use Rattle.scan_text.specs.Text.{nowhere}
 use Rattle.jack_meaning.specs.Text as meaning
 use Rattle.jack_tree.specs.declared.tree.Form.{Form}
 use Rattle.jack_tree.specs.declared.tree.Form.TheVariants as form
@@ -20,10 +20,6 @@ use Rattle.jack_names.specs.Made.{one}
 use Rattle.jack_names.specs.Inner.Meant.{made_number, number_by, statements_meant}
 use Rattle.jack_names.specs.declared.fault.NameKind.TheVariants as kinds
 use Rattle.jack_names.specs.declared.scope.Signature.{Signature}
-
--- the place of what no text names
-abbrev pub no_place : Place
-no_place = record { line = 0; column = 0 }
 
 abbrev pub class_names : List Class → List (List ℕ)
 class_names cs = map (λ c. c.name.text) cs
@@ -50,7 +46,7 @@ abbrev pub main_fault : Symbols → Option NameDiagnostic
 main_fault symbols =
     if is_plain (found_subroutine symbols (codes "Main") (codes "main"))
     then None
-    else Some (record { kind = kinds.NoMain; shipped = false; file = codes "Main.jack"; name = codes "Main.main"; place = no_place })
+    else Some (record { kind = kinds.NoMain; shipped = false; file = codes "Main.jack"; name = codes "Main.main"; place = nowhere })
 
 -- the first fault in the uses of a class
 abbrev pub class_fault : ClassScope → List Subroutine → Option NameDiagnostic
@@ -79,7 +75,7 @@ start_scope symbols = record {
 
 -- The program begins by a call of Sys.init, whose place is before all else in that file.
 abbrev pub start_fault : Symbols → Option NameDiagnostic
-start_fault symbols = use_fault (start_scope symbols) (Makes (codes "Sys") (codes "init") 0 no_place)
+start_fault symbols = use_fault (start_scope symbols) (Makes (codes "Sys") (codes "init") 0 nowhere)
 
 -- The first fault in the uses of the operating system's classes, with that call: where no file is that of Sys, the call comes last.
 abbrev pub os_fault : Symbols → ℕ → ℕ → List Class → Option NameDiagnostic

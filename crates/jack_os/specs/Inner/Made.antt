@@ -1,6 +1,6 @@
 -- Trees of the grammar of Jack (book, chapter 10, figure 10.5) without a text: their names and keywords have no place.
 use Rattle.std.specs.Prelude.{ℕ, List, [], ◌∷◌, codes}
-use Rattle.scan_text.specs.declared.Place.{Place}
+use Rattle.scan_text.specs.Text.{nowhere}
 use Rattle.grammar.specs.Rules.{Tree, Leaf, Node, Pair, Skip, Left, Right, Absent, Present, NoMore, More}
 use Rattle.jack_tree.specs.declared.token.Keyword.{Keyword}
 use Rattle.jack_tree.specs.declared.token.Keyword.TheVariants as keyword
@@ -13,10 +13,6 @@ use Rattle.jack_parser.specs.ClassTrees.{close_leaf}
 
 abbrev pub Jack : Type 0
 Jack = Tree Said
-
--- the place of what stands in no text
-abbrev pub nowhere : Place
-nowhere = record { line = 0; column = 0 }
 
 abbrev pub name_of : List ℕ → Jack
 name_of text = Leaf (Placed kind.Identifier text nowhere)

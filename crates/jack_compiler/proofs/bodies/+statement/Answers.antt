@@ -1,8 +1,8 @@
 use Rattle.std.proofs.Common.{◌≡◌, ◌+◌, ◌++◌, ℕ, suc, refl, sym, ap, subst, ◌∙◌, arith}
 use Rattle.jack_meaning.specs.Text.{Store, If, While}
 use Rattle.jack_core.specs.Reading.{the_expression}
-use Rattle.jack_compiler.specs.Surroundings.{the_around}
-use Rattle.jack_compiler.specs.Added.{Adds}
+use Rattle.jack_compiler.specs.Inner.Surroundings.{the_around}
+use Rattle.jack_compiler.specs.Inner.Added.{Adds}
 use Rattle.jack_compiler.specs.Lines.{into_if}
 use Rattle.jack_compiler.specs.declared.bodies.Body.{Body}
 use Rattle.std.proofs.lemmas.Result.{on_ok_weaker}

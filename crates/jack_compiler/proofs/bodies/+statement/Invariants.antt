@@ -1,6 +1,6 @@
 use Rattle.std.proofs.Common.{drop, suc, ◌+◌}
 use Rattle.jack_core.specs.Texts.{the_statement, the_block}
-use Rattle.jack_compiler.specs.Surroundings.{the_around}
+use Rattle.jack_compiler.specs.Inner.Surroundings.{the_around}
 use Rattle.jack_compiler.proofs.Adding.{GoesOn, weight_of, weight_in}
 use Rattle.jack_compiler.proofs.bodies.+statement.Given as goal
 

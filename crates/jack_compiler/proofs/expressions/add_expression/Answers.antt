@@ -1,7 +1,7 @@
 use Rattle.std.proofs.Common.{◌≤◌, ◌++◌, length, sym, ap, ◌∙◌, arith}
 use Rattle.std.proofs.lemmas.List.{append-nil, drop_all}
-use Rattle.jack_compiler.specs.Surroundings.{the_around}
-use Rattle.jack_compiler.specs.Postfix.{parts_lines}
+use Rattle.jack_compiler.specs.Inner.Surroundings.{the_around}
+use Rattle.jack_compiler.specs.Inner.Postfix.{parts_lines}
 use Rattle.jack_compiler.proofs.Named.{parts_named, part_named}
 use Rattle.jack_compiler.proofs.Postfix.{spelled_lines}
 use Rattle.jack_compiler.proofs.expressions.add_expression.Goals as goal

@@ -1,6 +1,6 @@
 use Rattle.std.proofs.Common.{◌≡◌, ◌++◌, drop}
-use Rattle.jack_compiler.specs.Surroundings.{the_around}
-use Rattle.jack_compiler.specs.Postfix.{parts_lines}
+use Rattle.jack_compiler.specs.Inner.Surroundings.{the_around}
+use Rattle.jack_compiler.specs.Inner.Postfix.{parts_lines}
 use Rattle.jack_compiler.proofs.expressions.add_expression.Given as goal
 
 abbrev pub invariant-loop-part : goal.invariant-loop-part

@@ -1,6 +1,6 @@
 use Rattle.std.proofs.Common.{map, take, option_map}
 use Rattle.jack_core.specs.Texts.{the_class, the_subroutine, names_of, class_names_of}
-use Rattle.jack_compiler.specs.Added.{AreFiles}
+use Rattle.jack_compiler.specs.Inner.Added.{AreFiles}
 use Rattle.jack_compiler.specs.Inner.Hollow.{whole_where}
 use Rattle.jack_compiler.proofs.program.with_functions.Given as goal
 

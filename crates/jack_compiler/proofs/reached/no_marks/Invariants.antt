@@ -1,5 +1,5 @@
 use Rattle.std.proofs.Common.{◌≡◌, ℕ, false, length}
-use Rattle.vm_link.specs.Marks.{is_marked}
+use Rattle.vm_link.specs.Inner.Marks.{is_marked}
 use Rattle.jack_compiler.proofs.reached.no_marks.Given as goal
 
 abbrev pub invariant-loop-subroutine : goal.invariant-loop-subroutine

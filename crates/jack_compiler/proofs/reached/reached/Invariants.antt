@@ -1,5 +1,5 @@
 use Rattle.std.proofs.Common.{◌+◌, ◌*◌, length}
-use Rattle.vm_link.specs.Marks.{unmarked_count}
+use Rattle.vm_link.specs.Inner.Marks.{unmarked_count}
 use Rattle.jack_core.specs.Texts.{the_program}
 use Rattle.jack_compiler.specs.Inner.Searched.{Looks}
 use Rattle.jack_compiler.proofs.reached.reached.Given as goal

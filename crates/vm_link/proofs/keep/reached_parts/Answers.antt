@@ -1,4 +1,4 @@
-use Rattle.vm_link.specs.Maps.{all_seen}
+use Rattle.vm_link.specs.Inner.Maps.{all_seen}
 use Rattle.vm_link.proofs.Keeping.{kept_by}
 use Rattle.vm_link.proofs.keep.reached_parts.Goals as goal
 

@@ -1,6 +1,6 @@
 use Rattle.std.proofs.Common.{◌≡◌, ◌++◌, drop}
-use Rattle.vm_link.specs.Marks.{selected_sections}
-use Rattle.vm_link.specs.Maps.{all_seen}
+use Rattle.vm_link.specs.Inner.Marks.{selected_sections}
+use Rattle.vm_link.specs.Inner.Maps.{all_seen}
 use Rattle.vm_link.proofs.keep.select.Given as goal
 
 abbrev pub invariant-loop-place : goal.invariant-loop-place

@@ -3,7 +3,7 @@ use Rattle.vm_link.specs.Sections.{Section}
 use Rattle.vm_link.specs.declared.section.Part.{Part}
 use Rattle.vm_link.specs.declared.linked.LinkedFunction.{LinkedFunction}
 use Rattle.vm_link.specs.Resolved.{function_of}
-use Rattle.vm_link.specs.Maps.{seen_section, all_seen}
+use Rattle.vm_link.specs.Inner.Maps.{seen_section, all_seen}
 use Rattle.vm_link.proofs.Marking.{seen_at, rest_at}
 use Rattle.vm_link.proofs.linking.functions.Goals as goal
 

@@ -1,6 +1,6 @@
 use Rattle.std.proofs.Common.{◌≡◌, ◌++◌, drop, map}
 use Rattle.vm_link.specs.Resolved.{function_of}
-use Rattle.vm_link.specs.Maps.{all_seen}
+use Rattle.vm_link.specs.Inner.Maps.{all_seen}
 use Rattle.vm_link.proofs.linking.functions.Given as goal
 
 abbrev pub invariant-loop-part : goal.invariant-loop-part

@@ -1,5 +1,5 @@
 use Rattle.std.proofs.Common.{◌≡◌, drop}
-use Rattle.vm_link.specs.Maps.{all_seen}
+use Rattle.vm_link.specs.Inner.Maps.{all_seen}
 use Rattle.vm_link.specs.Resolved.{is_marked}
 use Rattle.vm_link.proofs.linking.is_marked.Given as goal
 

@@ -1,7 +1,7 @@
 use Rattle.std.proofs.Common.{◌∙◌, length, sym}
 use Rattle.std.proofs.lemmas.Result.{err_from_is_err_and}
 use Rattle.vm_link.specs.Links.{memory, faulty, kept_faulty, whole}
-use Rattle.vm_link.specs.Maps.{all_seen}
+use Rattle.vm_link.specs.Inner.Maps.{all_seen}
 use Rattle.vm_link.proofs.LinkLemmas.{fitting, told, kept_of, text_of}
 use Rattle.vm_link.proofs.linking.link_files.Goals as goal
 

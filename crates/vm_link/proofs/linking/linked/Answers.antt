@@ -1,6 +1,6 @@
 use Rattle.std.proofs.Common.{subst, sym}
-use Rattle.vm_link.specs.Words.{AreBases, AreWords}
-use Rattle.vm_link.specs.Maps.{all_seen}
+use Rattle.vm_link.specs.Inner.Words.{AreBases, AreWords}
+use Rattle.vm_link.specs.Inner.Maps.{all_seen}
 use Rattle.vm_link.proofs.linking.linked.Goals as goal
 
 pub functions-requires-clause-fits : goal.functions-requires-clause-fits

@@ -1,7 +1,7 @@
 use Rattle.std.proofs.Common.{◌≡◌, ◌++◌, List, drop, length}
 use Rattle.vm_link.specs.Sections.{Section}
 use Rattle.vm_link.specs.Resolved.{files_from}
-use Rattle.vm_link.specs.Words.{AreWords}
+use Rattle.vm_link.specs.Inner.Words.{AreWords}
 use Rattle.vm_link.proofs.linking.linked_files.Given as goal
 
 abbrev pub invariant-loop-place : goal.invariant-loop-place

@@ -1,7 +1,7 @@
 use Rattle.std.proofs.Common.{◌≡◌, List, ℕ, drop, take, is_some}
 use Rattle.vm_link.specs.Sections.{stands_in}
 use Rattle.vm_link.specs.Faults.{first_repeat, repeat_after}
-use Rattle.vm_link.specs.Maps.{number, texts}
+use Rattle.vm_link.specs.Inner.Maps.{number, texts}
 use Rattle.vm_link.proofs.numbers.first_repeat.Given as goal
 
 abbrev pub invariant-loop-name : goal.invariant-loop-name

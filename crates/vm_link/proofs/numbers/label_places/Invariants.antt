@@ -1,7 +1,7 @@
 use Rattle.std.proofs.Common.{◌≡◌, ◌≤◌, ◌+◌, List, ℕ, drop}
 use Rattle.std.specs.Option.{option_or}
 use Rattle.vm_link.specs.Resolved.{label_place, first_place}
-use Rattle.vm_link.specs.Maps.{number, seen_section}
+use Rattle.vm_link.specs.Inner.Maps.{number, seen_section}
 use Rattle.vm_link.proofs.numbers.label_places.Given as goal
 
 abbrev pub invariant-loop-line : goal.invariant-loop-line

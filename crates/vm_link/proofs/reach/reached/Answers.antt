@@ -1,5 +1,5 @@
 use Rattle.std.proofs.Common.{rules, ◌∙◌, ◌≡◌, ◌<◌, sym, length, get_or, refl}
-use Rattle.vm_link.specs.Maps.{seen_section, all_seen}
+use Rattle.vm_link.specs.Inner.Maps.{seen_section, all_seen}
 use Rattle.vm_link.proofs.Marking.{below, looks_first, looks_next, looks_last, looks_below, seen_at, none_left, length_mapped}
 use Rattle.vm_link.proofs.reach.reached.Goals as goal
 

@@ -1,6 +1,6 @@
 use Rattle.std.proofs.Common.{◌+◌, ◌*◌, length}
-use Rattle.vm_link.specs.Marks.{unmarked_count}
-use Rattle.vm_link.specs.Maps.{all_seen}
+use Rattle.vm_link.specs.Inner.Marks.{unmarked_count}
+use Rattle.vm_link.specs.Inner.Maps.{all_seen}
 use Rattle.vm_link.proofs.Marking.{Looks}
 use Rattle.vm_link.proofs.reach.reached.Given as goal
 

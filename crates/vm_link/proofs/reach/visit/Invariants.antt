@@ -1,5 +1,5 @@
 use Rattle.std.proofs.Common.{◌≡◌, ◌⊎◌, ℕ, true, drop}
-use Rattle.vm_link.specs.Marks.{AreCalling, Marks, is_marked}
+use Rattle.vm_link.specs.Inner.Marks.{AreCalling, Marks, is_marked}
 use Rattle.vm_link.proofs.reach.visit.Given as goal
 
 abbrev pub invariant-loop-line : goal.invariant-loop-line

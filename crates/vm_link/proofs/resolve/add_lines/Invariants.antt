@@ -3,7 +3,7 @@ use Rattle.std.specs.List.{filter_map}
 use Rattle.vm_link.specs.Sections.{Section}
 use Rattle.vm_link.specs.Faults.{words_of_lines}
 use Rattle.vm_link.specs.Resolved.{code_of}
-use Rattle.vm_link.specs.Maps.{Tells}
+use Rattle.vm_link.specs.Inner.Maps.{Tells}
 use Rattle.vm_link.proofs.resolve.add_lines.Given as goal
 
 abbrev pub invariant-loop-line : goal.invariant-loop-line

@@ -3,7 +3,7 @@ use Rattle.std.specs.List.{filter_map}
 use Rattle.vm_link.specs.Resolved.{code_of, function_of}
 use Rattle.vm_link.specs.declared.linked.Code.{Code}
 use Rattle.vm_link.specs.declared.linked.LinkedFunction.{LinkedFunction}
-use Rattle.vm_link.specs.Maps.{seen_section}
+use Rattle.vm_link.specs.Inner.Maps.{seen_section}
 use Rattle.vm_link.proofs.resolve.function_of.Goals as goal
 
 same_function : (a b : LinkedFunction) → a.name ≡ b.name → a.file ≡ b.file → a.number ≡ b.number → a.code ≡ b.code → a ≡ b

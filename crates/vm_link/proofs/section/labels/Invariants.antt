@@ -1,6 +1,6 @@
 use Rattle.std.proofs.Common.{◌≡◌, ◌++◌, drop}
 use Rattle.vm_link.specs.Sections.{labels}
-use Rattle.vm_link.specs.Maps.{texts}
+use Rattle.vm_link.specs.Inner.Maps.{texts}
 use Rattle.vm_link.proofs.section.labels.Given as goal
 
 abbrev pub invariant-loop-line : goal.invariant-loop-line

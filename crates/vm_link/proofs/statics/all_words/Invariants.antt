@@ -1,7 +1,7 @@
 use Rattle.std.proofs.Common.{◌≡◌, ◌-◌, ◌^◌, List, min, length}
 use Rattle.vm_link.specs.Sections.{Section}
 use Rattle.vm_link.specs.Faults.{words_before}
-use Rattle.vm_link.specs.Words.{AreWords}
+use Rattle.vm_link.specs.Inner.Words.{AreWords}
 use Rattle.vm_link.proofs.statics.all_words.Given as goal
 
 abbrev pub invariant-loop-more : goal.invariant-loop-more

@@ -1,5 +1,5 @@
 use Rattle.std.proofs.Common.{◌≡◌, length, arith, subst}
-use Rattle.vm_link.specs.Words.{AreBases}
+use Rattle.vm_link.specs.Inner.Words.{AreBases}
 use Rattle.vm_link.proofs.WordLemmas.{sat_step, bases_more}
 use Rattle.vm_link.proofs.statics.bases.Goals as goal
 

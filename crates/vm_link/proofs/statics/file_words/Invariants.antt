@@ -1,6 +1,6 @@
 use Rattle.std.proofs.Common.{◌≡◌, ◌<◌, ℕ, drop, max, length, slice_index}
 use Rattle.vm_link.specs.Faults.{file_words}
-use Rattle.vm_link.specs.Maps.{all_seen}
+use Rattle.vm_link.specs.Inner.Maps.{all_seen}
 use Rattle.vm_link.proofs.statics.file_words.Given as goal
 
 abbrev pub invariant-loop-part : goal.invariant-loop-part

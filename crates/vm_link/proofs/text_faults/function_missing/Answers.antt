@@ -1,7 +1,7 @@
 use Rattle.std.proofs.Common.{◌∙◌, ap, is_some}
 use Rattle.std.specs.List.{list_any}
 use Rattle.vm_link.specs.Sections.{called_name, is_named}
-use Rattle.vm_link.specs.Maps.{has_number}
+use Rattle.vm_link.specs.Inner.Maps.{has_number}
 use Rattle.vm_link.proofs.Notes.{first_lacking, position_there}
 use Rattle.vm_link.proofs.text_faults.function_missing.Goals as goal
 

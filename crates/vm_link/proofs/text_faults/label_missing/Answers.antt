@@ -1,6 +1,6 @@
 use Rattle.std.proofs.Common.{◌∙◌, ap, is_some}
 use Rattle.vm_link.specs.Sections.{target, labels, stands_in}
-use Rattle.vm_link.specs.Maps.{has_number, seen_section}
+use Rattle.vm_link.specs.Inner.Maps.{has_number, seen_section}
 use Rattle.vm_link.specs.Resolved.{first_place}
 use Rattle.vm_link.proofs.Notes.{first_lacking, place_there}
 use Rattle.vm_link.proofs.text_faults.label_missing.Goals as goal

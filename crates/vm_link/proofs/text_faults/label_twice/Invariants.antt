@@ -1,6 +1,6 @@
 use Rattle.std.proofs.Common.{◌≡◌, drop}
 use Rattle.vm_link.specs.Faults.{first_of, label_twice}
-use Rattle.vm_link.specs.Maps.{all_seen}
+use Rattle.vm_link.specs.Inner.Maps.{all_seen}
 use Rattle.vm_link.proofs.text_faults.label_twice.Given as goal
 
 abbrev pub invariant-loop-part : goal.invariant-loop-part

@@ -1,7 +1,7 @@
 use Rattle.std.proofs.Common.{◌≡◌, List, drop}
 use Rattle.vm_link.specs.Sections.{Section}
 use Rattle.vm_link.specs.Faults.{first_of, no_function}
-use Rattle.vm_link.specs.Maps.{AreNumbers, all_seen}
+use Rattle.vm_link.specs.Inner.Maps.{AreNumbers, all_seen}
 use Rattle.vm_link.proofs.text_faults.no_function.Given as goal
 
 abbrev pub invariant-loop-part : goal.invariant-loop-part

@@ -3,7 +3,7 @@ use Rattle.std.specs.Prelude.{◌≡◌, ◌≤◌, ◌<◌, ◌+◌, ◌*◌, �
 use Rattle.std.specs.List.{list_any}
 use Rattle.vm_tree.specs.declared.command.Line.{Line}
 use Rattle.vm_link.specs.Sections.{Section, called_name}
-use Rattle.vm_link.specs.Maps.{Numbers, number}
+use Rattle.vm_link.specs.Inner.Maps.{Numbers, number}
 use Rattle.vm_link.specs.Reached.{Reached}
 
 -- the section of this number is marked

@@ -20,10 +20,10 @@ is_unary (Binary op) = false
 abbrev pub takes_one : Operation → Bool
 takes_one o = is_unary (combination_of o)
 
-abbrev pub combined : Combination → ℕ → ℕ → ℕ
-combined (Unary op) x y = op y
-combined (Binary op) x y = op x y
+abbrev pub combine : Combination → ℕ → ℕ → ℕ
+combine (Unary op) x y = op y
+combine (Binary op) x y = op x y
 
 -- the word that an operation makes of the two topmost values, x below y, or of y alone
 abbrev pub word_of : Operation → ℕ → ℕ → ℕ
-word_of o x y = combined (combination_of o) x y
+word_of o x y = combine (combination_of o) x y
