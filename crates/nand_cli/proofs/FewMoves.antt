@@ -15,12 +15,13 @@ use Rattle.simulation.specs.Trace.{steps}
 use Rattle.image_map.specs.Computer.{run_word}
 use Rattle.vm_link.specs.declared.linked.Linked.{Linked}
 use Rattle.tower.specs.VmRun.{VmEnds, vm_trace, vm_word}
+use Rattle.key_script.specs.Codes.{code_at}
 use Rattle.command_line.specs.declared.request.RunLevel.{RunLevel}
 use Rattle.command_line.specs.declared.request.RunLevel.TheVariants as levels
 use Rattle.command_line.specs.declared.request.Shown.{Shown}
 use Rattle.command_line.specs.declared.request.Shown.TheVariants.{Words}
 use Rattle.nand_cli.specs.Commands.Gates.{IsGatesReport, gates_trace}
-use Rattle.nand_cli.specs.Commands.Run.{EndsAt, IsReport, TellsAtMost, name_of, trace_in}
+use Rattle.nand_cli.specs.Commands.Run.{EndsAt, IsReport, RunIsShort, TellsAtMost, name_of, trace_in}
 use Rattle.nand_cli.specs.Inner.Reports.{Reports}
 use Rattle.nand_cli.specs.declared.failure.Failure.{Failure}
 use Rattle.nand_cli.proofs.Reporting.{reported_as}
@@ -77,6 +78,9 @@ few (levels.Hack show) core code n text h =
     tells n names.Hack n (steps (trace_in h.image code) n) (name_of (names_of core) point.sub) point.number ends.Bound (shown_text show word) text (omega arith) h.reports
 few (levels.Gates shown) core code n text h = gates_few shown core code n text h
 few (levels.Simplified show) core code n text h = gates_few (Words show) core code n text h
+
+pub run_is_short : RunIsShort
+run_is_short files source level cycles keys out (core, lines, means, built, has, report) = few level core (code_at lines) cycles out report
 
 pub with_few : (level : RunLevel) (core : Core) (code : ℕ → ℕ) (n : ℕ) (out out' : Option (List ℕ)) (r : Result (Unit {0}) Failure)
     → Reports (IsReport level core code n) out out' r → Reports (λ text. IsReport level core code n text × TellsAtMost n text) out out' r

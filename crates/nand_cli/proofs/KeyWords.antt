@@ -7,7 +7,7 @@ use Rattle.grammar.specs.declared.Fault.{Fault}
 use Rattle.grammar.specs.Rules.{word, seq, repeat, Leaf, Pair, More, Reads, marked, worded, at_end, both, left, right, passed, taken, ended, again, named, inside}
 use Rattle.key_script.specs.declared.lines.Line.{Line}
 use Rattle.key_script.specs.declared.token.Kind.{Kind}
-use Rattle.key_script.specs.declared.token.Token.{Token}
+use Rattle.key_script.specs.Tokens.{Word as Token}
 use Rattle.key_script.specs.Codes.{code_at, code_of, has_come}
 use Rattle.key_script.specs.Grammar.{KeyTree, Part, Spells, check_code, lines, lines_tree, number, script}
 use Rattle.key_script.specs.Tokens.{finish}

@@ -1,7 +1,8 @@
-//! The law of lines with which nothing is wrong, and rows of what it wants. (The other laws of lines stand in
-//! `command_laws`.)
+//! The law of lines with which nothing is wrong, rows of what it wants, and the law of how many moves a run reports. (The
+//! other laws of lines stand in `command_laws`.)
 ghost use Rattle.nand_cli.specs.Complete.{SoundLaw};
 ghost use Rattle.nand_cli.specs.CompleteRows.{CompleteRows};
+ghost use Rattle.nand_cli.specs.Commands.Run.{RunIsShort};
 
 /// Law: over known files a line that reads Jack classes, and with which nothing is wrong, is not refused.
 pub fn sound_law()
@@ -13,6 +14,11 @@ pub fn sound_law()
     tower::budget_law();
     os_named::system_named_law();
 }
+
+/// Law: what a run prints reports as many moves at most as are asked for.
+pub fn short_run_law()
+    ensures { RunIsShort }
+{}
 
 /// Rows: VM files with as many static words as there is room for, and a program with as many words of budget, by
 /// computation.

@@ -121,6 +121,12 @@ RunPrints files source level cycles keys out =
     (core : Core) × (lines : List Line) × FolderMeans files source core × IsBuilt core × HasKeys files keys lines
     × IsReport level core (code_at lines) cycles out
 
+-- What a run prints, at whatever level, reports as many moves at most as are asked for.
+abbrev pub RunIsShort : Type 0
+RunIsShort =
+    (files : Option Files) (source : Source) (level : RunLevel) (cycles : ℕ) (keys : Option (List ℕ)) (out : List ℕ)
+    → RunPrints files source level cycles keys out → TellsAtMost cycles out
+
 -- The run is refused, at whatever level, and this line says why. The folder means no program, or its program has no
 -- image, or, where it has one, the key script is refused.
 pub data RunRefuses (files : Option Files) (source : Source) (keys : Option (List ℕ)) (line : List ℕ) : Type 0 where
