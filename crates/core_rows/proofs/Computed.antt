@@ -6,7 +6,7 @@ use Rattle.jack_names.proofs.Searched.{all_faults}
 use Rattle.jack_names.proofs.Found.{finds_none}
 use Rattle.jack_names.specs.Meaning.{program_meaning}
 use Rattle.core_rows.specs.Texts.{Texts, own, system}
-use Rattle.core_rows.specs.Rows.{AreSpelled, MeansRow, meant}
+use Rattle.core_rows.specs.Rows.{AreSpelled, MeansRow, row_program}
 
 abbrev read : Texts → List ClassFile
 read [] = []
@@ -29,7 +29,7 @@ system_spelled = (refl, (refl, (refl, (refl, tt))))
 no_fault : all_faults (read own) (read system) ≡ None
 no_fault = refl
 
-means : program_meaning (read own) (read system) ≡ meant
+means : program_meaning (read own) (read system) ≡ row_program
 means = refl
 
 pub row : MeansRow

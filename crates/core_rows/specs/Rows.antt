@@ -59,8 +59,8 @@ of_system =
 abbrev pub class_of : ℕ → ℕ → Class
 class_of fields statics = record { fields = fields; statics = statics }
 
-abbrev pub meant : Program
-meant = record {
+abbrev pub row_program : Program
+row_program = record {
   classes = class_of 2 1 ∷ class_of 0 0 ∷ class_of 0 0 ∷ class_of 0 0 ∷ class_of 0 0 ∷ [];
   subroutines = no_subroutine ∷ new ∷ half ∷ main ∷ of_system;
   init = 9;
@@ -82,4 +82,4 @@ pub record MeansRow : Type 0 where
   pub spelled : AreSpelled own classes
   pub system_spelled : AreSpelled system system_classes
   pub well_named : IsWellNamed classes system_classes
-  pub means : program_meaning classes system_classes ≡ meant
+  pub means : program_meaning classes system_classes ≡ row_program

@@ -1,12 +1,9 @@
 -- What a program has of words besides those of its folder is at most those of all the system's subroutines. For a linked subroutine is one
 -- of the program's, and each is counted once.
-use Rattle.std.proofs.Common.{◌≡◌, ◌≢◌, ◌<◌, ◌≤◌, ◌+◌, ◌-◌, ◌⊎◌, ◌++◌, ℕ, zero, suc, List, [], ◌∷◌, length, map, get_or, inl, inr, refl, sym, ap, ◌∙◌, subst, arith}
+use Rattle.std.proofs.Common.{◌≡◌, ◌<◌, ◌≤◌, ◌+◌, ◌-◌, ◌++◌, ℕ, zero, suc, List, [], ◌∷◌, length, map, refl, sym, ap, ◌∙◌, subst, arith}
 use Rattle.std.specs.Prelude.{sum_by}
-use Rattle.std.specs.List.{AllPairs, Contains, remove}
-use Rattle.std.proofs.lemmas.Bool.{cases_lt}
-use Rattle.std.proofs.lemmas.List.{get_or_default}
-use Rattle.std.proofs.lemmas.List.Edits.{get_or-remove_above, get_or-remove_below, length-remove}
-use Rattle.std.proofs.lemmas.List.Sums.{sum_by-append, sum_by-cons, sum_by-remove}
+use Rattle.std.specs.List.{Contains}
+use Rattle.std.proofs.lemmas.List.Sums.{sum_by-append, sum_by-cons}
 use Rattle.jack_tree.specs.Syntax.{ClassFile}
 use Rattle.jack_tree.specs.Seen.{the_file}
 use Rattle.jack_meaning.specs.Text.{Program, Subroutine}
@@ -22,33 +19,8 @@ use Rattle.jack_compiler.proofs.Members.{body_keeps}
 use Rattle.jack_compiler.proofs.Resolving.{keeps_there}
 use Rattle.tower.specs.Budget.{IsBudget, subroutine_words, words_at}
 use Rattle.tower.specs.Resolved.{ResolvedLaw}
+use Rattle.tower.proofs.Budgets.{sum_within}
 use Rattle.os_budgets.specs.Laws.{EachFolderLaw, own_words}
-
--- ---- sums over numbers, each once (as in the proofs of the tower's budgets)
-
-cases_place : (j k : ℕ) → (j < k) ⊎ ((j ≡ k) ⊎ (k < j))
-cases_place j k = elim (cases_lt j k) [ inl h ↦ inl h | inr h ↦ elim (cases_lt k j) [ inl i ↦ inr (inr i) | inr i ↦ inr (inl (omega arith)) ] ]
-
-member_kept : (gs : List ℕ) (k g x : ℕ) → k < length gs → get_or gs k g ≡ g → Contains gs x → g ≢ x → Contains (remove gs k) x
-member_kept gs k g x near at (j, low, here) other = there (cases_place j k)
-  where
-    short : length (remove gs k) + 1 ≡ length gs
-    short = length-remove gs k near
-
-    there : (j < k) ⊎ ((j ≡ k) ⊎ (k < j)) → Contains (remove gs k) x
-    there (inl below) = (j, omega (arith, short), get_or-remove_below gs k x j below near ∙ here)
-    there (inr (inl same)) = absurd (other (sym at ∙ get_or_default gs k g x near ∙ ap (λ i. get_or gs i x) (sym same) ∙ here))
-    there (inr (inr above)) =
-        let next : j - 1 + 1 ≡ j = omega arith in
-        (j - 1, omega (arith, short), get_or-remove_above gs k x (j - 1) (omega arith) near ∙ ap (λ i. get_or gs i x) next ∙ here)
-
-sum_within : (h : ℕ → ℕ) (ns gs : List ℕ) → AllPairs (λ x y. x ≢ y) ns → ((x : ℕ) → Contains ns x → Contains gs x) → sum_by h ns ≤ sum_by h gs
-sum_within h [] gs apart there = omega arith
-sum_within h (n ∷ ns) gs apart there =
-    let (k, near, at) = there n (0, omega arith, refl) in
-    let more = sum_within h ns (remove gs k) (λ i j d a b. apart (suc i) (suc j) d (omega arith) (omega arith))
-    (λ x (j, low, here). member_kept gs k n x near at (there x (suc j, omega arith, here)) (λ e. apart 0 (suc j) x (omega arith) (omega arith) (e ∙ sym here))) in
-    omega (arith, more, sum_by-cons h n ns, sum_by-remove h gs k n near, ap h at)
 
 -- ---- the numbers of subroutines
 

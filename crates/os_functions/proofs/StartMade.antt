@@ -109,49 +109,77 @@ module _ (subs : List Subroutine) (g error free : ℕ) (ss ws : List ℕ) (long 
 
 -- ---- the calls of Sys.init
 
+module _ {core : Core} (p : IsShipped core) where
+  abbrev pub number : List ℕ → List ℕ → ℕ
+  number class name = number_of core p class name
+
+  abbrev pub init_at : List ℕ → ℕ
+  init_at class = number class (codes "init")
+
+  abbrev pub alloc_at : ℕ
+  alloc_at = number (codes "Memory") (codes "alloc")
+
+  abbrev pub four_at : ℕ
+  four_at = number (codes "Output") (codes "four")
+
+  abbrev pub main_at : ℕ
+  main_at = number (codes "Main") (codes "main")
+
+  abbrev pub error_at : ℕ
+  error_at = system_error p
+
+  -- ---- the text of Sys.init, from each call on
+
+  abbrev pub halt_at : ℕ
+  halt_at = number (codes "Sys") (codes "halt")
+
+  abbrev pub halts : Text
+  halts = does 7 halt_at (Next (Return 8 (Literal 0)) End)
+
+  abbrev pub main_text : Text
+  main_text = does 6 main_at halts
+
+  abbrev pub keyboard_text : Text
+  keyboard_text = does 5 (init_at (codes "Keyboard")) main_text
+
+  abbrev pub output_text : Text
+  output_text = does 4 (init_at (codes "Output")) keyboard_text
+
+  abbrev pub screen_text : Text
+  screen_text = does 3 (init_at (codes "Screen")) output_text
+
+  abbrev pub math_text : Text
+  math_text = does 2 (init_at (codes "Math")) screen_text
+
+  abbrev pub memory_text : Text
+  memory_text = does 1 (init_at (codes "Memory")) math_text
+
+  pub called_at : (class name : List ℕ) → subroutine_at (the_subroutines core) (number class name) ≡ subroutine_at (the_subroutines core) (routine_number p class name)
+  called_at class name = ap (subroutine_at (the_subroutines core)) (sym (numbered core p class name))
+
+  module _ (h : HasStatics p) where
+    pub has_memory : subroutine_at (the_subroutines core) (init_at (codes "Memory")) ≡ init_meaning (own_number core p 3) h.free
+    has_memory = called_at (codes "Memory") (codes "init") ∙ is_memory core p ∙ ap (λ (k : ℕ). init_meaning (own_number core p 3) k) (same_free h)
+
+    pub has_alloc : subroutine_at (the_subroutines core) alloc_at ≡ alloc_meaning (own_number core p 3) error_at h.free
+    has_alloc = called_at (codes "Memory") (codes "alloc") ∙ is_alloc core p ∙ ap (λ (k : ℕ). alloc_meaning (own_number core p 3) error_at k) (same_free h)
+
+    pub has_screen : subroutine_at (the_subroutines core) (init_at (codes "Screen")) ≡ routine Function (own_number core p 5) 0 0 (init_body h.black)
+    has_screen = called_at (codes "Screen") (codes "init") ∙ is_init core p ∙ ap (λ (k : ℕ). routine Function (own_number core p 5) 0 0 (init_body k)) (same_black h)
+
+    pub has_four : subroutine_at (the_subroutines core) four_at ≡ routine Function (own_number core p 4) 12 0 (four_body h.font)
+    has_four = called_at (codes "Output") (codes "four") ∙ is_four core p ∙ ap (λ (k : ℕ). routine Function (own_number core p 4) 12 0 (four_body k)) (same_font h)
+
+    pub has_output : subroutine_at (the_subroutines core) (init_at (codes "Output")) ≡ routine Function (own_number core p 4) 0 0 (output_body alloc_at four_at h.font h.place h.right)
+    has_output =
+        called_at (codes "Output") (codes "init") ∙ is_output core p
+        ∙ ap (λ (k : ℕ). routine Function (own_number core p 4) 0 0 (output_body alloc_at four_at k (first_static core p 4 + 1) (first_static core p 4 + 1 + 1))) (same_font h)
+        ∙ ap (λ (k : ℕ). routine Function (own_number core p 4) 0 0 (output_body alloc_at four_at h.font k (first_static core p 4 + 1 + 1))) (same_place h)
+        ∙ ap (λ (k : ℕ). routine Function (own_number core p 4) 0 0 (output_body alloc_at four_at h.font h.place k)) (same_right h)
+
 module _ {core : Core} (p : IsShipped core) (h : HasStatics p) (ss0 ws0 : List ℕ) (long : length ws0 ≡ 22528) (room : h.black < length ss0) where
   abbrev subs : List Subroutine
   subs = the_subroutines core
-
-  abbrev number : List ℕ → List ℕ → ℕ
-  number class name = number_of core p class name
-
-  abbrev init_at : List ℕ → ℕ
-  init_at class = number class (codes "init")
-
-  abbrev alloc_at : ℕ
-  alloc_at = number (codes "Memory") (codes "alloc")
-
-  abbrev four_at : ℕ
-  four_at = number (codes "Output") (codes "four")
-
-  abbrev main_at : ℕ
-  main_at = number (codes "Main") (codes "main")
-
-  abbrev error_at : ℕ
-  error_at = system_error p
-
-  called_at : (class name : List ℕ) → subroutine_at subs (number class name) ≡ subroutine_at subs (routine_number p class name)
-  called_at class name = ap (subroutine_at subs) (sym (numbered core p class name))
-
-  has_memory : subroutine_at subs (init_at (codes "Memory")) ≡ init_meaning (own_number core p 3) h.free
-  has_memory = called_at (codes "Memory") (codes "init") ∙ is_memory core p ∙ ap (λ (k : ℕ). init_meaning (own_number core p 3) k) (same_free h)
-
-  has_alloc : subroutine_at subs alloc_at ≡ alloc_meaning (own_number core p 3) error_at h.free
-  has_alloc = called_at (codes "Memory") (codes "alloc") ∙ is_alloc core p ∙ ap (λ (k : ℕ). alloc_meaning (own_number core p 3) error_at k) (same_free h)
-
-  has_screen : subroutine_at subs (init_at (codes "Screen")) ≡ routine Function (own_number core p 5) 0 0 (init_body h.black)
-  has_screen = called_at (codes "Screen") (codes "init") ∙ is_init core p ∙ ap (λ (k : ℕ). routine Function (own_number core p 5) 0 0 (init_body k)) (same_black h)
-
-  has_four : subroutine_at subs four_at ≡ routine Function (own_number core p 4) 12 0 (four_body h.font)
-  has_four = called_at (codes "Output") (codes "four") ∙ is_four core p ∙ ap (λ (k : ℕ). routine Function (own_number core p 4) 12 0 (four_body k)) (same_font h)
-
-  has_output : subroutine_at subs (init_at (codes "Output")) ≡ routine Function (own_number core p 4) 0 0 (output_body alloc_at four_at h.font h.place h.right)
-  has_output =
-      called_at (codes "Output") (codes "init") ∙ is_output core p
-      ∙ ap (λ (k : ℕ). routine Function (own_number core p 4) 0 0 (output_body alloc_at four_at k (first_static core p 4 + 1) (first_static core p 4 + 1 + 1))) (same_font h)
-      ∙ ap (λ (k : ℕ). routine Function (own_number core p 4) 0 0 (output_body alloc_at four_at h.font k (first_static core p 4 + 1 + 1))) (same_place h)
-      ∙ ap (λ (k : ℕ). routine Function (own_number core p 4) 0 0 (output_body alloc_at four_at h.font h.place k)) (same_right h)
 
   -- ---- statics and words on the way
 
@@ -193,10 +221,10 @@ module _ {core : Core} (p : IsShipped core) (h : HasStatics p) (ss0 ws0 : List �
 
   module _ (below : List Frame) (g : ℕ) where
     -- Memory.init
-    memory_done : (n : ℕ) (rest : Text) → Quiet subs 16 (at subs below g (does n (init_at (codes "Memory")) rest) ss0 ws0) (at subs below g rest ss1 ws1)
+    memory_done : (n : ℕ) (rest : Text) → Quiet subs 16 (at subs below g (does n (init_at p (codes "Memory")) rest) ss0 ws0) (at subs below g rest ss1 ws1)
     memory_done n rest =
-        let f = init_at (codes "Memory") in
-        does_leaf subs below g n f 13 5 rest End (init_meaning (own_number core p 3) h.free) (searching.in_call subs f 0 h.free ss0 ws0 End ss1 ws1 [] (2048 ∷ [])).frame ss0 ws0 ss1 ws1 has_memory
+        let f = init_at p (codes "Memory") in
+        does_leaf subs below g n f 13 5 rest End (init_meaning (own_number core p 3) h.free) (searching.in_call subs f 0 h.free ss0 ws0 End ss1 ws1 [] (2048 ∷ [])).frame ss0 ws0 ss1 ws1 (has_memory p h)
         (searching.lays subs f 0 h.free ss0 ws0 free_set)
 
     -- Math.init, Keyboard.init
@@ -205,15 +233,15 @@ module _ {core : Core} (p : IsShipped core) (h : HasStatics p) (ss0 ws0 : List �
         does_leaf subs below g n f 1 1 rest End (routine Function class 0 0 nothing_body) (in_call f 0 ss ws End [] []).frame ss ws ss ws is (does_nothing subs f ss ws)
 
     -- Screen.init
-    screen_done : (n : ℕ) (rest : Text) (ws : List ℕ) → Quiet subs 6 (at subs below g (does n (init_at (codes "Screen")) rest) ss1 ws) (at subs below g rest ss2 ws)
+    screen_done : (n : ℕ) (rest : Text) (ws : List ℕ) → Quiet subs 6 (at subs below g (does n (init_at p (codes "Screen")) rest) ss1 ws) (at subs below g rest ss2 ws)
     screen_done n rest ws =
-        let f = init_at (codes "Screen") in
-        does_leaf subs below g n f 3 2 rest End (routine Function (own_number core p 5) 0 0 (init_body h.black)) (in_call f 0 ss2 ws End [] []).frame ss1 ws ss2 ws has_screen (colour_begun subs f ss1 ws h.black)
+        let f = init_at p (codes "Screen") in
+        does_leaf subs below g n f 3 2 rest End (routine Function (own_number core p 5) 0 0 (init_body h.black)) (in_call f 0 ss2 ws End [] []).frame ss1 ws ss2 ws (has_screen p h) (colour_begun subs f ss1 ws h.black)
 
     -- ---- Output.init
 
     abbrev f : ℕ
-    f = init_at (codes "Output")
+    f = init_at p (codes "Output")
 
     module _ (n : ℕ) (rest : Text) where
       abbrev waits : List Frame
@@ -223,10 +251,10 @@ module _ {core : Core} (p : IsShipped core) (h : HasStatics p) (ss0 ws0 : List �
       out t ss ws = at subs waits f t ss ws
 
       abbrev table_text : Text
-      table_text = fours four_at 2 font_table (output_end h.font h.place h.right)
+      table_text = fours (four_at p) 2 font_table (output_end h.font h.place h.right)
 
       abbrev asks : Text
-      asks = Next (Let 1 (Static h.font) (Calling alloc_at (More (Value 288) NoMore))) table_text
+      asks = Next (Let 1 (Static h.font) (Calling (alloc_at p) (More (Value 288) NoMore))) table_text
 
       abbrev has : Text
       has = Next (Let 1 (Static h.font) (Value 16096)) table_text
@@ -234,24 +262,24 @@ module _ {core : Core} (p : IsShipped core) (h : HasStatics p) (ss0 ws0 : List �
       abbrev with_place : ℕ → List ℕ
       with_place v = slice_set ss2 h.font v
 
-      entered : Quiet subs 1 (at subs below g (does n f rest) ss2 ws1) (out (output_body alloc_at four_at h.font h.place h.right) ss2 ws1)
+      entered : Quiet subs 1 (at subs below g (does n f rest) ss2 ws1) (out (output_body (alloc_at p) (four_at p) h.font h.place h.right) ss2 ws1)
       entered =
-          subst (λ (z : Frame). Quiet subs 1 (at subs below g (does n f rest) ss2 ws1) (record { frames = z ∷ waits; statics = ss2; words = ws1 })) (enters subs f _ [] has_output)
+          subst (λ (z : Frame). Quiet subs 1 (at subs below g (does n f rest) ss2 ws1) (record { frames = z ∷ waits; statics = ss2; words = ws1 })) (enters subs f _ [] (has_output p h))
           (one subs (at subs below g (does n f rest) ss2 ws1) (record { frames = new_frame subs f [] ∷ waits; statics = ss2; words = ws1 }) refl)
 
-      asked : Quiet subs 1 (out (output_body alloc_at four_at h.font h.place h.right) ss2 ws1) (out asks ss2 ws1)
-      asked = quiet_run subs waits 1 _ _ (asks_heap subs f ss2 ws1 h.font alloc_at table_text)
+      asked : Quiet subs 1 (out (output_body (alloc_at p) (four_at p) h.font h.place h.right) ss2 ws1) (out asks ss2 ws1)
+      asked = quiet_run subs waits 1 _ _ (asks_heap subs f ss2 ws1 h.font (alloc_at p) table_text)
 
       given_block : Quiet subs 57 (out asks ss2 ws1) (out has ss2 ws2)
       given_block =
-          quiet_call subs waits (in_call f 0 ss2 ws1 asks [] []).frame (in_call f 0 ss2 ws1 (Next (Let 1 (Static h.font) Open) table_text) [] []).frame ss2 ws1 ss2 ws2 alloc_at (288 ∷ []) (alloc_meaning (own_number core p 3) error_at h.free) 55 17 16096
-          (searching.behind subs alloc_at error_at h.free ss2 ws1) (searching.at_text subs alloc_at error_at h.free ss2 ws1 End ss2 ws2 288 16095 0 289).frame has_alloc refl (alloc_run subs alloc_at error_at h.free ss2 ws1 long1 free_kept size_set)
+          quiet_call subs waits (in_call f 0 ss2 ws1 asks [] []).frame (in_call f 0 ss2 ws1 (Next (Let 1 (Static h.font) Open) table_text) [] []).frame ss2 ws1 ss2 ws2 (alloc_at p) (288 ∷ []) (alloc_meaning (own_number core p 3) (error_at p) h.free) 55 17 16096
+          (searching.behind subs (alloc_at p) (error_at p) h.free ss2 ws1) (searching.at_text subs (alloc_at p) (error_at p) h.free ss2 ws1 End ss2 ws2 288 16095 0 289).frame (has_alloc p h) refl (alloc_run subs (alloc_at p) (error_at p) h.free ss2 ws1 long1 free_kept size_set)
 
       placed : Quiet subs 1 (out has ss2 ws2) (out table_text (with_place 16096) ws2)
       placed = quiet_run subs waits 1 _ _ (has_heap subs f ss2 ws2 h.font 16096 table_text)
 
       drawn : Quiet subs 1632 (out table_text (with_place 16096) ws2) (out (output_end h.font h.place h.right) (with_place 16384) ws3)
-      drawn = all_fours subs waits f four_at (own_number core p 4) h.font has_four ss2 room_font font_table 2 14048 (output_end h.font h.place h.right) ws2 (omega arith)
+      drawn = all_fours subs waits f (four_at p) (own_number core p 4) h.font (has_four p h) ss2 room_font font_table 2 14048 (output_end h.font h.place h.right) ws2 (omega arith)
 
       shorter : slice_set (slice_set (slice_set (with_place 16384) h.font 16000) h.place 16384) h.right 0 ≡ ss3
       shorter = ap (λ (l : List ℕ). slice_set (slice_set l h.place 16384) h.right 0) (set-set ss2 h.font 16384 16000)
@@ -270,7 +298,7 @@ module _ {core : Core} (p : IsShipped core) (h : HasStatics p) (ss0 ws0 : List �
       output_done : Quiet subs 1703 (at subs below g (does n f rest) ss2 ws1) (at subs below g rest ss3 ws3)
       output_done =
           let s0 = at subs below g (does n f rest) ss2 ws1 in
-          let s1 = out (output_body alloc_at four_at h.font h.place h.right) ss2 ws1 in
+          let s1 = out (output_body (alloc_at p) (four_at p) h.font h.place h.right) ss2 ws1 in
           let s2 = out asks ss2 ws1 in
           let s3 = out has ss2 ws2 in
           let s4 = out table_text (with_place 16096) ws2 in
@@ -284,44 +312,20 @@ module _ {core : Core} (p : IsShipped core) (h : HasStatics p) (ss0 ws0 : List �
 
     -- ---- the whole of Sys.init up to Main.main
 
-    abbrev halt_at : ℕ
-    halt_at = number (codes "Sys") (codes "halt")
-
-    abbrev halts : Text
-    halts = does 7 halt_at (Next (Return 8 (Literal 0)) End)
-
-    abbrev main_text : Text
-    main_text = does 6 main_at halts
-
-    abbrev keyboard_text : Text
-    keyboard_text = does 5 (init_at (codes "Keyboard")) main_text
-
-    abbrev output_text : Text
-    output_text = does 4 f keyboard_text
-
-    abbrev screen_text : Text
-    screen_text = does 3 (init_at (codes "Screen")) output_text
-
-    abbrev math_text : Text
-    math_text = does 2 (init_at (codes "Math")) screen_text
-
-    abbrev memory_text : Text
-    memory_text = does 1 (init_at (codes "Memory")) math_text
-
     abbrev pub main_waits : Frame
-    main_waits = (in_call g 0 ss3 ws3 (Next (Do 6 Open) halts) [] []).frame
+    main_waits = (in_call g 0 ss3 ws3 (Next (Do 6 Open) (halts p)) [] []).frame
 
-    pub started : Quiet subs 1734 (at subs below g memory_text ss0 ws0) (record { frames = new_frame subs main_at [] ∷ main_waits ∷ below; statics = ss3; words = ws3 })
+    pub started : Quiet subs 1734 (at subs below g (memory_text p) ss0 ws0) (record { frames = new_frame subs (main_at p) [] ∷ main_waits ∷ below; statics = ss3; words = ws3 })
     started =
-        let last : State = record { frames = new_frame subs main_at [] ∷ main_waits ∷ below; statics = ss3; words = ws3 } in
-        let s0 = at subs below g memory_text ss0 ws0 in
-        let s1 = at subs below g math_text ss1 ws1 in
-        let s2 = at subs below g screen_text ss1 ws1 in
-        let s3 = at subs below g output_text ss2 ws1 in
-        let s4 = at subs below g keyboard_text ss3 ws3 in
-        let s5 = at subs below g main_text ss3 ws3 in
-        quiet_then subs 16 1718 s0 s1 last (memory_done 1 math_text)
-        (quiet_then subs 4 1714 s1 s2 last (nothing_done 2 (init_at (codes "Math")) (own_number core p 2) screen_text ss1 ws1 (called_at (codes "Math") (codes "init") ∙ is_math core p))
-        (quiet_then subs 6 1708 s2 s3 last (screen_done 3 output_text ws1)
-        (quiet_then subs 1703 5 s3 s4 last (output_done 4 keyboard_text)
-        (quiet_then subs 4 1 s4 s5 last (nothing_done 5 (init_at (codes "Keyboard")) (own_number core p 1) main_text ss3 ws3 (called_at (codes "Keyboard") (codes "init") ∙ is_keyboard core p)) (one subs s5 last refl)))))
+        let last : State = record { frames = new_frame subs (main_at p) [] ∷ main_waits ∷ below; statics = ss3; words = ws3 } in
+        let s0 = at subs below g (memory_text p) ss0 ws0 in
+        let s1 = at subs below g (math_text p) ss1 ws1 in
+        let s2 = at subs below g (screen_text p) ss1 ws1 in
+        let s3 = at subs below g (output_text p) ss2 ws1 in
+        let s4 = at subs below g (keyboard_text p) ss3 ws3 in
+        let s5 = at subs below g (main_text p) ss3 ws3 in
+        quiet_then subs 16 1718 s0 s1 last (memory_done 1 (math_text p))
+        (quiet_then subs 4 1714 s1 s2 last (nothing_done 2 (init_at p (codes "Math")) (own_number core p 2) (screen_text p) ss1 ws1 (called_at p (codes "Math") (codes "init") ∙ is_math core p))
+        (quiet_then subs 6 1708 s2 s3 last (screen_done 3 (output_text p) ws1)
+        (quiet_then subs 1703 5 s3 s4 last (output_done 4 (keyboard_text p))
+        (quiet_then subs 4 1 s4 s5 last (nothing_done 5 (init_at p (codes "Keyboard")) (own_number core p 1) (main_text p) ss3 ws3 (called_at p (codes "Keyboard") (codes "init") ∙ is_keyboard core p)) (one subs s5 last refl)))))

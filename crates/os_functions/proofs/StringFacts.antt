@@ -9,7 +9,7 @@ use Rattle.os_laws.specs.Heap.{word_at}
 use Rattle.os_laws.proofs.Searching.{Reaches}
 use Rattle.os_laws.proofs.Storing.{other_word}
 use Rattle.os_laws.proofs.Walking.{here, reaches}
-use Rattle.os_functions.specs.StringLaws.{StringAt, stored}
+use Rattle.os_functions.specs.StringLaws.{StringAt, with_heap_word}
 
 -- ---- lists
 
@@ -30,7 +30,7 @@ earlier_char (c ∷ text) w (suc i) h = earlier_char text w i (omega (arith, h))
 -- ---- words
 
 -- a word that is stored is there
-pub this_word : (ws : List ℕ) (a w : ℕ) → length ws ≡ 22528 → 2048 ≤ a → a < 24576 → word_at (stored ws a w) a ≡ w
+pub this_word : (ws : List ℕ) (a w : ℕ) → length ws ≡ 22528 → 2048 ≤ a → a < 24576 → word_at (with_heap_word ws a w) a ≡ w
 this_word ws a w n low high = get_or-set_same ws (a - 2048) w 0 (omega (arith, n, low, high))
 
 -- a negative word is below one that is not
@@ -66,30 +66,30 @@ module _ (ws : List ℕ) (o : ℕ) (text : List ℕ) (room : ℕ) (t : StringAt 
   pub no_field : (j k : ℕ) → j < room → k < 3 → o + k ≢ t.place + j
   no_field j k h m e = ⊎_elim (λ l. omega (arith, l, e, m)) (λ r. omega (arith, r, e, h)) (t.apart (omega (arith, h)))
 
-  own : (j w k : ℕ) → j < room → k < 3 → word_at (stored ws (t.place + j) w) (o + k) ≡ word_at ws (o + k)
+  own : (j w k : ℕ) → j < room → k < 3 → word_at (with_heap_word ws (t.place + j) w) (o + k) ≡ word_at ws (o + k)
   own j w k h m = other_word ws (t.place + j) (o + k) w (in_heap j h).0 (omega (arith, t.object)) (no_field j k h m)
 
-  own_first : (j w : ℕ) → j < room → word_at (stored ws (t.place + j) w) o ≡ word_at ws o
-  own_first j w h = ap (λ a. word_at (stored ws (t.place + j) w) a) (let e : o ≡ o + 0 = omega arith in e) ∙ own j w 0 h (omega arith) ∙ ap (word_at ws) (let e : o + 0 ≡ o = omega arith in e)
+  own_first : (j w : ℕ) → j < room → word_at (with_heap_word ws (t.place + j) w) o ≡ word_at ws o
+  own_first j w h = ap (λ a. word_at (with_heap_word ws (t.place + j) w) a) (let e : o ≡ o + 0 = omega arith in e) ∙ own j w 0 h (omega arith) ∙ ap (word_at ws) (let e : o + 0 ≡ o = omega arith in e)
 
-  other_character : (j w i : ℕ) → j < room → i < room → i ≢ j → word_at (stored ws (t.place + j) w) (t.place + i) ≡ word_at ws (t.place + i)
+  other_character : (j w i : ℕ) → j < room → i < room → i ≢ j → word_at (with_heap_word ws (t.place + j) w) (t.place + i) ≡ word_at ws (t.place + i)
   other_character j w i h k d = other_word ws (t.place + j) (t.place + i) w (in_heap j h).0 (in_heap i k).0 (λ e. d (omega (arith, e)))
 
   module _ (long : length ws ≡ 22528) where
     -- ---- another character
 
-    set_text : (j w : ℕ) → j < n → (i : ℕ) → i < length (slice_set text j w) → word_at (stored ws (t.place + j) w) (t.place + i) ≡ slice_index (slice_set text j w) i
+    set_text : (j w : ℕ) → j < n → (i : ℕ) → i < length (slice_set text j w) → word_at (with_heap_word ws (t.place + j) w) (t.place + i) ≡ slice_index (slice_set text j w) i
     set_text j w h i k =
         let near : i < n = omega (arith, k, length-set text j w) in
         let room_j : j < room = omega (arith, h, t.few) in
         ⊎_elim
         (λ (e : i ≡ j).
-        ap (λ z. word_at (stored ws (t.place + j) w) (t.place + z)) e ∙ this_word ws (t.place + j) w long (in_heap j room_j).0 (let a = (in_heap j room_j).1 in omega (arith, a))
+        ap (λ z. word_at (with_heap_word ws (t.place + j) w) (t.place + z)) e ∙ this_word ws (t.place + j) w long (in_heap j room_j).0 (let a = (in_heap j room_j).1 in omega (arith, a))
         ∙ sym (get_or-set_same text j w 0 h) ∙ ap (slice_index (slice_set text j w)) (sym e))
         (λ (d : i ≢ j). other_character j w i room_j (omega (arith, near, t.few)) d ∙ t.each i near ∙ sym (get_or-set_other text j i w 0 d))
         (same_or_not i j)
 
-    pub set_string : (j w : ℕ) → j < n → StringAt (stored ws (t.place + j) w) o (slice_set text j w) room
+    pub set_string : (j w : ℕ) → j < n → StringAt (with_heap_word ws (t.place + j) w) o (slice_set text j w) room
     set_string j w h =
         let room_j : j < room = omega (arith, h, t.few) in
         record {
@@ -107,19 +107,19 @@ module _ (ws : List ℕ) (o : ℕ) (text : List ℕ) (room : ℕ) (t : StringAt 
 
     -- ---- another count
 
-    counted_word : (ws' : List ℕ) (m a : ℕ) → 2048 ≤ a → a ≢ o + 1 → word_at (stored ws' (o + 1) m) a ≡ word_at ws' a
+    counted_word : (ws' : List ℕ) (m a : ℕ) → 2048 ≤ a → a ≢ o + 1 → word_at (with_heap_word ws' (o + 1) m) a ≡ word_at ws' a
     counted_word ws' m a low d = other_word ws' (o + 1) a m (omega (arith, t.object)) low d
 
     -- ---- one character more
 
     abbrev longer : ℕ → List ℕ
-    longer w = stored (stored ws (t.place + n) w) (o + 1) (n + 1)
+    longer w = with_heap_word (with_heap_word ws (t.place + n) w) (o + 1) (n + 1)
 
-    long_after : (w : ℕ) → length (stored ws (t.place + n) w) ≡ 22528
+    long_after : (w : ℕ) → length (with_heap_word ws (t.place + n) w) ≡ 22528
     long_after w = length-set ws (t.place + n - 2048) w ∙ long
 
     append_field : (w k : ℕ) → n < room → k < 3 → k ≢ 1 → word_at (longer w) (o + k) ≡ word_at ws (o + k)
-    append_field w k h m d = counted_word (stored ws (t.place + n) w) (n + 1) (o + k) (omega (arith, t.object)) (λ e. d (omega (arith, e))) ∙ own n w k h m
+    append_field w k h m d = counted_word (with_heap_word ws (t.place + n) w) (n + 1) (o + k) (omega (arith, t.object)) (λ e. d (omega (arith, e))) ∙ own n w k h m
 
     append_first : (w : ℕ) → n < room → word_at (longer w) o ≡ word_at ws o
     append_first w h = ap (word_at (longer w)) (let e : o ≡ o + 0 = omega arith in e) ∙ append_field w 0 h (omega arith) (λ e. absurd (omega (arith, e))) ∙ ap (word_at ws) (let e : o + 0 ≡ o = omega arith in e)
@@ -128,12 +128,12 @@ module _ (ws : List ℕ) (o : ℕ) (text : List ℕ) (room : ℕ) (t : StringAt 
     append_text w h i k =
         let near : i < n + 1 = omega (arith, k, length-append text (w ∷ [])) in
         let room_i : i < room = omega (arith, near, h) in
-        counted_word (stored ws (t.place + n) w) (n + 1) (t.place + i) (in_heap i room_i).0 (λ e. no_field i 1 room_i (omega arith) (sym e))
+        counted_word (with_heap_word ws (t.place + n) w) (n + 1) (t.place + i) (in_heap i room_i).0 (λ e. no_field i 1 room_i (omega arith) (sym e))
         ∙ ⊎_elim
         (λ (l : i < n). other_character n w i h room_i (λ e. absurd (omega (arith, l, e))) ∙ t.each i l ∙ sym (earlier_char text w i l))
         (λ (g : n ≤ i).
         let e : i ≡ n = omega (arith, g, near) in
-        ap (λ z. word_at (stored ws (t.place + n) w) (t.place + z)) e ∙ this_word ws (t.place + n) w long (in_heap n h).0 (let a = (in_heap n h).1 in omega (arith, a)) ∙ sym (last_char text w) ∙ ap (slice_index (text ++ w ∷ [])) (sym e))
+        ap (λ z. word_at (with_heap_word ws (t.place + n) w) (t.place + z)) e ∙ this_word ws (t.place + n) w long (in_heap n h).0 (let a = (in_heap n h).1 in omega (arith, a)) ∙ sym (last_char text w) ∙ ap (slice_index (text ++ w ∷ [])) (sym e))
         (cases_lt i n)
 
     pub append_string : (w : ℕ) → n < room → StringAt (longer w) o (text ++ w ∷ []) room
@@ -142,7 +142,7 @@ module _ (ws : List ℕ) (o : ℕ) (text : List ℕ) (room : ℕ) (t : StringAt 
         record {
           place = t.place;
           characters = append_first w h ∙ t.characters;
-          count = this_word (stored ws (t.place + n) w) (o + 1) (n + 1) (long_after w) (omega (arith, t.object)) (omega (arith, t.object)) ∙ sym size;
+          count = this_word (with_heap_word ws (t.place + n) w) (o + 1) (n + 1) (long_after w) (omega (arith, t.object)) (omega (arith, t.object)) ∙ sym size;
           most = append_field w 2 h (omega arith) (λ e. absurd (omega (arith, e))) ∙ t.most;
           object = t.object;
           few = omega (arith, size, h);
@@ -153,13 +153,13 @@ module _ (ws : List ℕ) (o : ℕ) (text : List ℕ) (room : ℕ) (t : StringAt 
         }
 
     -- the count after the first store
-    pub append_count_kept : (w : ℕ) → n < room → word_at (stored ws (t.place + n) w) (o + 1) ≡ n
+    pub append_count_kept : (w : ℕ) → n < room → word_at (with_heap_word ws (t.place + n) w) (o + 1) ≡ n
     append_count_kept w h = own n w 1 h (omega arith) ∙ t.count
 
     -- ---- one character less
 
     abbrev shorter : List ℕ
-    shorter = stored ws (o + 1) (n - 1)
+    shorter = with_heap_word ws (o + 1) (n - 1)
 
     erase_field : (k : ℕ) → k < 3 → k ≢ 1 → word_at shorter (o + k) ≡ word_at ws (o + k)
     erase_field k m d = counted_word ws (n - 1) (o + k) (omega (arith, t.object)) (λ e. d (omega (arith, e)))

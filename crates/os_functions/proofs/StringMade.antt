@@ -13,7 +13,7 @@ use Rattle.os_laws.proofs.Comparing.{less, not_less, negative, not_negative}
 use Rattle.os_laws.proofs.Runs.{run, run_then}
 use Rattle.os_laws.proofs.Searching.{Reaches}
 use Rattle.os_functions.specs.Calls.{routine_number}
-use Rattle.os_functions.specs.StringLaws.{StringAt, StringLaws, LengthLaw, CharLaw, CharErrorLaw, SetCharLaw, SetCharErrorLaw, AppendLaw, AppendErrorLaw, EraseLaw, EraseErrorLaw, CodeLaw, stored}
+use Rattle.os_functions.specs.StringLaws.{StringAt, StringLaws, LengthLaw, CharLaw, CharErrorLaw, SetCharLaw, SetCharErrorLaw, AppendLaw, AppendErrorLaw, EraseLaw, EraseErrorLaw, CodeLaw, with_heap_word}
 use Rattle.os_functions.proofs.Pieces.{gives_by, leaves_by, refuses_by, returns_value}
 use Rattle.os_functions.proofs.Named.{is_error, system_error, own_number}
 use Rattle.os_functions.proofs.StringRoutines.{is_length, is_char_at, is_set_char, is_append, is_erase, is_back_space, is_double_quote, is_new_line}
@@ -97,12 +97,12 @@ module _ {core : Core} (p : IsShipped core) (s : State) (o : ℕ) (text : List �
       let e = t.place + j in
       let first = at_text subs g o s.statics s.words (set_char_body error) (j ∷ v ∷ []) in
       let middle = at_text subs g o s.statics s.words (writes subs g o s.statics s.words) (j ∷ v ∷ []) in
-      let last = at_with subs g o s.statics s.words (stored s.words e v) (returns_value 4 0 End) (j ∷ v ∷ []) in
+      let last = at_with subs g o s.statics s.words (with_heap_word s.words e v) (returns_value 4 0 End) (j ∷ v ∷ []) in
       let near : j < room = omega (arith, h, t.few) in
       let tested : run subs 9 first ≡ Some middle =
       is_inside subs g o s.statics s.words j error 16 (o + 1) (writes subs g o s.statics s.words) (v ∷ []) (at_count s.words o text room t) (not_negative_by t j h) (inside_by t j h) in
       let written : run subs 5 middle ≡ Some last = writes_character subs g o s.statics s.words j v e (at_place s.words o text room t) (at_character s.words o text room t j near) in (
-        leaves_by p s (codes "String") (codes "setCharAt") (o ∷ j ∷ v ∷ []) c.call 14 16 (omega arith) _ (is_set_char core p) o s.statics (stored s.words e v) 4 0 End (o ∷ j ∷ v ∷ []) [] (run_then subs 9 5 first middle last tested written),
+        leaves_by p s (codes "String") (codes "setCharAt") (o ∷ j ∷ v ∷ []) c.call 14 16 (omega arith) _ (is_set_char core p) o s.statics (with_heap_word s.words e v) 4 0 End (o ∷ j ∷ v ∷ []) [] (run_then subs 9 5 first middle last tested written),
         set_string s.words o text room t c.words j v h,
       )
 
@@ -123,8 +123,8 @@ module _ {core : Core} (p : IsShipped core) (s : State) (o : ℕ) (text : List �
       let g = number (codes "appendChar") in
       let error = system_error p in
       let e = t.place + n in
-      let ws1 = stored s.words e v in
-      let ws2 = stored ws1 (o + 1) (n + 1) in
+      let ws1 = with_heap_word s.words e v in
+      let ws2 = with_heap_word ws1 (o + 1) (n + 1) in
       let first = at_text subs g o s.statics s.words (append_body error) (v ∷ []) in
       let middle = at_with subs g o s.statics s.words ws1 (counts subs g o s.statics s.words) (v ∷ []) in
       let last = at_with subs g o s.statics s.words ws2 (returns_value 5 o End) (v ∷ []) in
@@ -153,7 +153,7 @@ module _ {core : Core} (p : IsShipped core) (s : State) (o : ℕ) (text : List �
       let t = c.string in
       let g = number (codes "eraseLastChar") in
       let error = system_error p in
-      let ws' = stored s.words (o + 1) (n - 1) in
+      let ws' = with_heap_word s.words (o + 1) (n - 1) in
       let some : nat_eq (word_at s.words (o + 1)) 0 ≡ false = ap (λ z. nat_eq z 0) t.count ∙ more_numbers n 0 h in
       let left : word_sub (word_at s.words (o + 1)) 1 ≡ n - 1 = ap (λ z. word_sub z 1) t.count ∙ (let a : word_sub n 1 ≡ n - 1 = omega (arith, h, t.few, t.small) in a) in (
         leaves_by p s (codes "String") (codes "eraseLastChar") (o ∷ []) c.call 9 11 (omega arith) _ (is_erase core p) o s.statics ws' 4 0 End (o ∷ []) [] (erases_character subs g o s.statics s.words error (o + 1) (n - 1) (at_count s.words o text room t) some left),

@@ -23,8 +23,8 @@ pub record StringAt (words : List ℕ) (o : ℕ) (text : List ℕ) (room : ℕ) 
   pub each : (j : ℕ) → j < length text → word_at words (place + j) ≡ slice_index text j
 
 -- the words with another one at an address
-abbrev pub stored : List ℕ → ℕ → ℕ → List ℕ
-stored words a w = slice_set words (a - heap) w
+abbrev pub with_heap_word : List ℕ → ℕ → ℕ → List ℕ
+with_heap_word words a w = slice_set words (a - heap) w
 
 -- The next step of a state is a call of this method of a string.
 pub record CallsString {core : Core} (p : IsShipped core) (s : State) (method : List ℕ) (o : ℕ) (more : List ℕ) (text : List ℕ) (room : ℕ) : Type 0 where
@@ -46,7 +46,7 @@ module _ {core : Core} (p : IsShipped core) (s : State) (o : ℕ) (text : List �
   abbrev pub SetCharLaw : Type 0
   SetCharLaw =
       (j w : ℕ) → j < length text → (c : CallsString p s (codes "setCharAt") o (j ∷ w ∷ []) text room)
-      → Leaves c.call 16 0 s.statics (stored s.words (c.string.place + j) w) × StringAt (stored s.words (c.string.place + j) w) o (slice_set text j w) room
+      → Leaves c.call 16 0 s.statics (with_heap_word s.words (c.string.place + j) w) × StringAt (with_heap_word s.words (c.string.place + j) w) o (slice_set text j w) room
 
   abbrev pub SetCharErrorLaw : Type 0
   SetCharErrorLaw = (j w : ℕ) → length text ≤ j → j < 2 ^ 16 → (c : CallsString p s (codes "setCharAt") o (j ∷ w ∷ []) text room) → Refuses p c.call 12 16
@@ -55,8 +55,8 @@ module _ {core : Core} (p : IsShipped core) (s : State) (o : ℕ) (text : List �
   abbrev pub AppendLaw : Type 0
   AppendLaw =
       (w : ℕ) → length text < room → (c : CallsString p s (codes "appendChar") o (w ∷ []) text room)
-      → Leaves c.call 15 o s.statics (stored (stored s.words (c.string.place + length text) w) (o + 1) (length text + 1))
-      × StringAt (stored (stored s.words (c.string.place + length text) w) (o + 1) (length text + 1)) o (text ++ w ∷ []) room
+      → Leaves c.call 15 o s.statics (with_heap_word (with_heap_word s.words (c.string.place + length text) w) (o + 1) (length text + 1))
+      × StringAt (with_heap_word (with_heap_word s.words (c.string.place + length text) w) (o + 1) (length text + 1)) o (text ++ w ∷ []) room
 
   abbrev pub AppendErrorLaw : Type 0
   AppendErrorLaw = (w : ℕ) → length text ≡ room → (c : CallsString p s (codes "appendChar") o (w ∷ []) text room) → Refuses p c.call 7 17
@@ -65,7 +65,7 @@ module _ {core : Core} (p : IsShipped core) (s : State) (o : ℕ) (text : List �
   abbrev pub EraseLaw : Type 0
   EraseLaw =
       0 < length text → (c : CallsString p s (codes "eraseLastChar") o [] text room)
-      → Leaves c.call 11 0 s.statics (stored s.words (o + 1) (length text - 1)) × StringAt (stored s.words (o + 1) (length text - 1)) o (take (length text - 1) text) room
+      → Leaves c.call 11 0 s.statics (with_heap_word s.words (o + 1) (length text - 1)) × StringAt (with_heap_word s.words (o + 1) (length text - 1)) o (take (length text - 1) text) room
 
   abbrev pub EraseErrorLaw : Type 0
   EraseErrorLaw = length text ≡ 0 → (c : CallsString p s (codes "eraseLastChar") o [] text room) → Refuses p c.call 7 18

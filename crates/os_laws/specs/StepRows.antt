@@ -48,11 +48,11 @@ abbrev pub then_call : ℕ → ℕ → List ℕ → Option State → Option Stat
 then_call n g ws o = option_and_then (λ s. after kernel no_key n (calls g ws s.statics s.words)) o
 
 -- after Memory.init; then alloc(3), alloc(1), deAlloc(16381), alloc(3)
-abbrev pub laid : Option State
-laid = after kernel no_key 15 (calls 3 [] (0 ∷ []) (replicate 22528 0))
+abbrev pub state_after_init : Option State
+state_after_init = after kernel no_key 15 (calls 3 [] (0 ∷ []) (replicate 22528 0))
 
 abbrev pub first_block : Option State
-first_block = then_call 57 4 (3 ∷ []) laid
+first_block = then_call 57 4 (3 ∷ []) state_after_init
 
 abbrev pub second_block : Option State
 second_block = then_call 57 4 (1 ∷ []) first_block

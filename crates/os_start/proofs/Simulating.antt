@@ -28,7 +28,7 @@ use Rattle.jack_compiler.proofs.Ways.{Goes, R, up, low, way_more, last_way}
 use Rattle.jack_compiler.proofs.Parts.{is_below}
 use Rattle.jack_compiler.proofs.Begun.{begun_way, making_way}
 use Rattle.jack_compiler.proofs.Entering.{between_way}
-use Rattle.jack_compiler.proofs.Whole.{callers_words, begun_length, part_length}
+use Rattle.jack_compiler.proofs.Whole.{callers_words, begun_length, part_length, start_frame, start_vm, start_frame_is}
 use Rattle.os_start.proofs.Plain.{runs_plain, plain_meaning, first_true, second_true, IsPlain, plain_is}
 use Rattle.os_start.proofs.Entering.{plain_way}
 
@@ -96,21 +96,6 @@ module _ (program : Program) (numbers : Numbers) (linked : Linked) (agree : IsCo
           (making_way program numbers linked 4 agree ss ws f g below V vf vg vbs (record { words = memory.words; sub = number_is f.subroutine vf same.kept same.function }) memory callers vf.place vf.values vf.that (omega (arith, room, lower, args, locals, values, stands)) n x rest
           (sym (ap text_point text), λ key. ap (step_first program.subroutines key (record { frames = f ∷ g ∷ below; statics = ss; words = ws }) f (g ∷ below)) text) closed same unmade b)
 
-  -- `start`, where all is said by literals
-  abbrev start_frame : Frame → Text → Frame
-  start_frame f t = record f { subroutine = 0; text = t }
-
-  abbrev start_vm : VmFrame → ℕ → List ℕ → VmFrame
-  start_vm vf p vs = record vf { function = None; place = p; values = vs }
-
-  start_frame_is : (f : Frame) (vf : VmFrame) (t : Text) (p : ℕ) (vs : List ℕ) (P : Frame → VmFrame → Type 0) → AtStart program numbers linked 4 f vf t p vs → P (start_frame f t) (start_vm vf p vs) → P f vf
-  start_frame_is f vf t p vs P a h =
-      subst (λ x. P (record f { subroutine = x }) vf) (sym a.subroutine)
-      (subst (λ x. P (record f { subroutine = 0; text = x }) vf) (sym a.text_is)
-      (subst (λ x. P (start_frame f t) (record vf { function = x })) (sym a.function)
-      (subst (λ x. P (start_frame f t) (record vf { function = None; place = x })) (sym a.place_is)
-      (subst (λ x. P (start_frame f t) (record vf { function = None; place = p; values = x })) (sym a.values_are) h))))
-
   -- its two commands are commits
   counted : (c : Step) → Some (record { step = c; statement = 1; commit = linked.marked }) ≡ Some (commit 1 c)
   counted c = ap (λ x. Some (record { step = c; statement = 1; commit = x })) agree.marked
@@ -124,7 +109,7 @@ module _ (program : Program) (numbers : Numbers) (linked : Linked) (agree : IsCo
 
     before_way : AtStart program numbers linked 4 f vf (Next (Do 1 (Call program.init NoMore)) End) 0 [] → GoesStart f vf
     before_way a =
-        start_frame_is f vf (Next (Do 1 (Call program.init NoMore)) End) 0 [] GoesStart a
+        start_frame_is program numbers linked 4 f vf (Next (Do 1 (Call program.init NoMore)) End) 0 [] GoesStart a
         (way_more program numbers linked 4 _ 60 105 _ (omega arith)
         (last_way program numbers linked 4 _ V (start_vm vf 0 []) [] 1 (command.Call (unwrap_or linked.start 0) 0) false
         (λ key. record { frames = new_frame program.subroutines program.init [] ∷ start_frame f (Next (Do 1 Open) End) ∷ []; statics = ss; words = ws })
@@ -141,7 +126,7 @@ module _ (program : Program) (numbers : Numbers) (linked : Linked) (agree : IsCo
     answered_way : (w : ℕ) → AtStart program numbers linked 4 f vf (Next (Do 1 (Value w)) End) 1 (w ∷ []) → GoesStart f vf
     answered_way w a =
         let longer = length-set V.temps 0 w in
-        start_frame_is f vf (Next (Do 1 (Value w)) End) 1 (w ∷ []) GoesStart a
+        start_frame_is program numbers linked 4 f vf (Next (Do 1 (Value w)) End) 1 (w ∷ []) GoesStart a
         (way_more program numbers linked 4 _ 12 105 _ (omega arith)
         (last_way program numbers linked 4 _ V (start_vm vf 1 (w ∷ [])) [] 1 (command.Pop segment.Temp 0) false
         (λ key. record { frames = start_frame f End ∷ []; statics = ss; words = ws })
@@ -158,7 +143,7 @@ module _ (program : Program) (numbers : Numbers) (linked : Linked) (agree : IsCo
 
     after_way : AtStart program numbers linked 4 f vf End 2 [] → GoesStart f vf
     after_way a =
-        start_frame_is f vf End 2 [] GoesStart a
+        start_frame_is program numbers linked 4 f vf End 2 [] GoesStart a
         (record {
           way = last 105 [] _
               (rests _

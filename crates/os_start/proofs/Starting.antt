@@ -4,7 +4,7 @@ use Rattle.std.specs.Prelude.{slice_set}
 use Rattle.std.proofs.lemmas.List.{get_or-set_same, length-set, set-set}
 use Rattle.jack_core.specs.declared.program.Core.{Core}
 use Rattle.jack_core.specs.Texts.{the_subroutines}
-use Rattle.jack_meaning.specs.Text.{Static, Value, Open, Call as Calling, NoMore, More, Literal, Let, Do, Return, Text, End, Next, Function, Subroutine}
+use Rattle.jack_meaning.specs.Text.{Static, Value, Open, Call as Calling, NoMore, More, Let, Do, Text, End, Next, Function, Subroutine}
 use Rattle.jack_meaning.specs.Meaning.{Frame, State, subroutine_at, new_frame}
 use Rattle.jack_meaning.specs.StackWords.{stack_words, standing_first}
 use Rattle.os_laws.specs.Kernel.{init_meaning, alloc_meaning}
@@ -13,19 +13,17 @@ use Rattle.os_laws.proofs.Basics.{frame_with, enters}
 use Rattle.os_laws.proofs.Returns.{returning}
 use Rattle.os_laws.proofs.Runs.{run}
 use Rattle.os_laws.proofs.Searching as searching
-use Rattle.os_functions.specs.Calls.{routine_number, HasStatics}
+use Rattle.os_functions.specs.Calls.{HasStatics}
 use Rattle.os_functions.proofs.FontMade.{laid_join}
-use Rattle.os_functions.proofs.MemoryRoutines.{is_alloc}
-use Rattle.os_functions.proofs.Named.{numbered, number_of, own_number, first_static, system_error}
+use Rattle.os_functions.proofs.Named.{own_number}
 use Rattle.os_functions.proofs.Pieces.{in_call, returns_value}
 use Rattle.os_functions.proofs.Quiet.{one, quiet_run}
-use Rattle.os_functions.proofs.ScreenRoutines.{is_init}
 use Rattle.os_functions.proofs.ScreenRuns.{colour_begun}
-use Rattle.os_functions.proofs.StartMade.{at, alloc_run, ss1, ws1, ss2, ws2, ss3, ws3, free_set, free_kept, size_set, long1}
-use Rattle.os_functions.proofs.StartRoutines.{is_memory, is_math, is_keyboard, is_four, is_output}
+use Rattle.os_functions.proofs.StartMade.{at, alloc_run, init_at, alloc_at, four_at, main_at, error_at, halts, main_text, keyboard_text, output_text, screen_text, math_text, memory_text, called_at, has_memory, has_alloc, has_screen, has_four, has_output, ss1, ws1, ss2, ws2, ss3, ws3, free_set, free_kept, size_set, long1}
+use Rattle.os_functions.proofs.StartRoutines.{is_math, is_keyboard}
 use Rattle.os_functions.proofs.StartRuns.{laid, four_run, asks_heap, has_heap, asks_four, passes, output_ends, does_nothing}
 use Rattle.os_functions.proofs.StartTexts.{Row, words_of, all_words, font_table, four_body, literals, values, fours, output_end, output_body, nothing_body, does}
-use Rattle.os_functions.proofs.Statics.{same_free, same_font, same_place, same_right, same_black, apart}
+use Rattle.os_functions.proofs.Statics.{apart}
 use Rattle.os_functions.proofs.Texts.{routine, init_body}
 use Rattle.os_start.proofs.Narrow.{wide_text}
 use Rattle.os_start.proofs.Plain.{is_plain}
@@ -114,47 +112,7 @@ module _ {core : Core} (p : IsShipped core) (h : HasStatics p) (ss0 ws0 : List �
   abbrev subs : List Subroutine
   subs = the_subroutines core
 
-  abbrev number : List ℕ → List ℕ → ℕ
-  number class name = number_of core p class name
-
-  abbrev init_at : List ℕ → ℕ
-  init_at class = number class (codes "init")
-
-  abbrev alloc_at : ℕ
-  alloc_at = number (codes "Memory") (codes "alloc")
-
-  abbrev four_at : ℕ
-  four_at = number (codes "Output") (codes "four")
-
-  abbrev main_at : ℕ
-  main_at = number (codes "Main") (codes "main")
-
-  abbrev error_at : ℕ
-  error_at = system_error p
-
-  called_at : (class name : List ℕ) → subroutine_at subs (number class name) ≡ subroutine_at subs (routine_number p class name)
-  called_at class name = ap (subroutine_at subs) (sym (numbered core p class name))
-
-  has_memory : subroutine_at subs (init_at (codes "Memory")) ≡ init_meaning (own_number core p 3) h.free
-  has_memory = called_at (codes "Memory") (codes "init") ∙ is_memory core p ∙ ap (λ (k : ℕ). init_meaning (own_number core p 3) k) (same_free h)
-
-  has_alloc : subroutine_at subs alloc_at ≡ alloc_meaning (own_number core p 3) error_at h.free
-  has_alloc = called_at (codes "Memory") (codes "alloc") ∙ is_alloc core p ∙ ap (λ (k : ℕ). alloc_meaning (own_number core p 3) error_at k) (same_free h)
-
-  has_screen : subroutine_at subs (init_at (codes "Screen")) ≡ routine Function (own_number core p 5) 0 0 (init_body h.black)
-  has_screen = called_at (codes "Screen") (codes "init") ∙ is_init core p ∙ ap (λ (k : ℕ). routine Function (own_number core p 5) 0 0 (init_body k)) (same_black h)
-
-  has_four : subroutine_at subs four_at ≡ routine Function (own_number core p 4) 12 0 (four_body h.font)
-  has_four = called_at (codes "Output") (codes "four") ∙ is_four core p ∙ ap (λ (k : ℕ). routine Function (own_number core p 4) 12 0 (four_body k)) (same_font h)
-
-  has_output : subroutine_at subs (init_at (codes "Output")) ≡ routine Function (own_number core p 4) 0 0 (output_body alloc_at four_at h.font h.place h.right)
-  has_output =
-      called_at (codes "Output") (codes "init") ∙ is_output core p
-      ∙ ap (λ (k : ℕ). routine Function (own_number core p 4) 0 0 (output_body alloc_at four_at k (first_static core p 4 + 1) (first_static core p 4 + 1 + 1))) (same_font h)
-      ∙ ap (λ (k : ℕ). routine Function (own_number core p 4) 0 0 (output_body alloc_at four_at h.font k (first_static core p 4 + 1 + 1))) (same_place h)
-      ∙ ap (λ (k : ℕ). routine Function (own_number core p 4) 0 0 (output_body alloc_at four_at h.font h.place k)) (same_right h)
-
-  -- ---- statics and words on the way (as in StartMade)
+  -- ---- statics and words on the way
 
   abbrev sa : List ℕ
   sa = ss1 p h ss0 ws0 long room
@@ -185,10 +143,10 @@ module _ {core : Core} (p : IsShipped core) (h : HasStatics p) (ss0 ws0 : List �
     deeper = omega (arith, deep)
 
     -- Memory.init
-    memory_done : (n : ℕ) (rest : Text) → Path subs 16 (here_at (does n (init_at (codes "Memory")) rest) ss0 ws0) (here_at rest sa wa)
+    memory_done : (n : ℕ) (rest : Text) → Path subs 16 (here_at (does n (init_at p (codes "Memory")) rest) ss0 ws0) (here_at rest sa wa)
     memory_done n rest =
-        let f = init_at (codes "Memory") in
-        does_leaf subs b bs deeper g plain n f 13 5 rest End (init_meaning (own_number core p 3) h.free) (searching.in_call subs f 0 h.free ss0 ws0 End sa wa [] (2048 ∷ [])).frame ss0 ws0 sa wa has_memory refl (omega arith)
+        let f = init_at p (codes "Memory") in
+        does_leaf subs b bs deeper g plain n f 13 5 rest End (init_meaning (own_number core p 3) h.free) (searching.in_call subs f 0 h.free ss0 ws0 End sa wa [] (2048 ∷ [])).frame ss0 ws0 sa wa (has_memory p h) refl (omega arith)
         (searching.lays subs f 0 h.free ss0 ws0 (free_set p h ss0 ws0 long room))
 
     -- Math.init, Keyboard.init
@@ -197,18 +155,18 @@ module _ {core : Core} (p : IsShipped core) (h : HasStatics p) (ss0 ws0 : List �
         does_leaf subs b bs deeper g plain n f 1 1 rest End (routine Function class 0 0 nothing_body) (in_call f 0 ss ws End [] []).frame ss ws ss ws is refl (omega arith) (does_nothing subs f ss ws)
 
     -- Screen.init
-    screen_done : (n : ℕ) (rest : Text) (ws : List ℕ) → Path subs 6 (here_at (does n (init_at (codes "Screen")) rest) sa ws) (here_at rest sb ws)
+    screen_done : (n : ℕ) (rest : Text) (ws : List ℕ) → Path subs 6 (here_at (does n (init_at p (codes "Screen")) rest) sa ws) (here_at rest sb ws)
     screen_done n rest ws =
-        let f = init_at (codes "Screen") in
-        does_leaf subs b bs deeper g plain n f 3 2 rest End (routine Function (own_number core p 5) 0 0 (init_body h.black)) (in_call f 0 sb ws End [] []).frame sa ws sb ws has_screen refl (omega arith) (colour_begun subs f sa ws h.black)
+        let f = init_at p (codes "Screen") in
+        does_leaf subs b bs deeper g plain n f 3 2 rest End (routine Function (own_number core p 5) 0 0 (init_body h.black)) (in_call f 0 sb ws End [] []).frame sa ws sb ws (has_screen p h) refl (omega arith) (colour_begun subs f sa ws h.black)
 
     -- ---- Output.init
 
     abbrev f : ℕ
-    f = init_at (codes "Output")
+    f = init_at p (codes "Output")
 
     plain_output : is_plain (subroutine_at subs f) ≡ true
-    plain_output = ap is_plain has_output
+    plain_output = ap is_plain (has_output p h)
 
     module _ (n : ℕ) (rest : Text) where
       abbrev waits : Frame
@@ -221,13 +179,13 @@ module _ {core : Core} (p : IsShipped core) (h : HasStatics p) (ss0 ws0 : List �
       below_output = omega (arith, deep)
 
       abbrev table_text : Text
-      table_text = fours four_at 2 font_table (output_end h.font h.place h.right)
+      table_text = fours (four_at p) 2 font_table (output_end h.font h.place h.right)
 
       abbrev begin_text : Text
-      begin_text = output_body alloc_at four_at h.font h.place h.right
+      begin_text = output_body (alloc_at p) (four_at p) h.font h.place h.right
 
       abbrev asks : Text
-      asks = Next (Let 1 (Static h.font) (Calling alloc_at (More (Value 288) NoMore))) table_text
+      asks = Next (Let 1 (Static h.font) (Calling (alloc_at p) (More (Value 288) NoMore))) table_text
 
       abbrev has : Text
       has = Next (Let 1 (Static h.font) (Value 16096)) table_text
@@ -244,25 +202,25 @@ module _ {core : Core} (p : IsShipped core) (h : HasStatics p) (ss0 ws0 : List �
 
       entered : Path subs 1 (here_at (does n f rest) sb wa) (out begin_text sb wa)
       entered =
-          subst (λ (z : Frame). Path subs 1 (here_at (does n f rest) sb wa) (record { frames = z ∷ waits ∷ b ∷ bs; statics = sb; words = wa })) (enters subs f _ [] has_output)
+          subst (λ (z : Frame). Path subs 1 (here_at (does n f rest) sb wa) (record { frames = z ∷ waits ∷ b ∷ bs; statics = sb; words = wa })) (enters subs f _ [] (has_output p h))
           (path_one subs (here_at (does n f rest) sb wa) (record { frames = new_frame subs f [] ∷ waits ∷ b ∷ bs; statics = sb; words = wa }) (calm_at subs b bs deeper g plain (does n f rest) sb wa (omega arith))
           (one subs (here_at (does n f rest) sb wa) (record { frames = new_frame subs f [] ∷ waits ∷ b ∷ bs; statics = sb; words = wa }) refl))
 
       asked : Path subs 1 (out begin_text sb wa) (out asks sb wa)
-      asked = out_one begin_text asks sb wa sb wa (omega arith) (asks_heap subs f sb wa h.font alloc_at table_text)
+      asked = out_one begin_text asks sb wa sb wa (omega arith) (asks_heap subs f sb wa h.font (alloc_at p) table_text)
 
       given_block : Path subs 57 (out asks sb wa) (out has sb wb)
       given_block =
-          path_call subs waits (b ∷ bs) (in_call f 0 sb wa asks [] []).frame (in_call f 0 sb wa (Next (Let 1 (Static h.font) Open) table_text) [] []).frame sb wa sb wb alloc_at (288 ∷ []) (alloc_meaning (own_number core p 3) error_at h.free) 55 17 16096
-          (searching.behind subs alloc_at error_at h.free sb wa) (searching.at_text subs alloc_at error_at h.free sb wa End sb wb 288 16095 0 289).frame has_alloc refl
+          path_call subs waits (b ∷ bs) (in_call f 0 sb wa asks [] []).frame (in_call f 0 sb wa (Next (Let 1 (Static h.font) Open) table_text) [] []).frame sb wa sb wb (alloc_at p) (288 ∷ []) (alloc_meaning (own_number core p 3) (error_at p) h.free) 55 17 16096
+          (searching.behind subs (alloc_at p) (error_at p) h.free sb wa) (searching.at_text subs (alloc_at p) (error_at p) h.free sb wa End sb wb 288 16095 0 289).frame (has_alloc p h) refl
           (out_calm asks sb wa (omega arith)) (omega (arith, below_output)) refl
-          (alloc_run subs alloc_at error_at h.free sb wa (long1 p h ss0 ws0 long room) (free_kept p h ss0 ws0 long room) (size_set p h ss0 ws0 long room))
+          (alloc_run subs (alloc_at p) (error_at p) h.free sb wa (long1 p h ss0 ws0 long room) (free_kept p h ss0 ws0 long room) (size_set p h ss0 ws0 long room))
 
       placed : Path subs 1 (out has sb wb) (out table_text (with_place 16096) wb)
       placed = out_one has table_text sb wb (with_place 16096) wb (omega arith) (has_heap subs f sb wb h.font 16096 table_text)
 
       drawn : Path subs 1632 (out table_text (with_place 16096) wb) (out (output_end h.font h.place h.right) (with_place 16384) wc)
-      drawn = all_fours subs waits (b ∷ bs) below_output f plain_output four_at (own_number core p 4) h.font has_four sb room_font font_table 2 14048 (output_end h.font h.place h.right) wb (omega arith) (omega arith)
+      drawn = all_fours subs waits (b ∷ bs) below_output f plain_output (four_at p) (own_number core p 4) h.font (has_four p h) sb room_font font_table 2 14048 (output_end h.font h.place h.right) wb (omega arith) (omega arith)
 
       shorter : slice_set (slice_set (slice_set (with_place 16384) h.font 16000) h.place 16384) h.right 0 ≡ sc
       shorter = ap (λ (l : List ℕ). slice_set (slice_set l h.place 16384) h.right 0) (set-set sb h.font 16384 16000)
@@ -296,45 +254,21 @@ module _ {core : Core} (p : IsShipped core) (h : HasStatics p) (ss0 ws0 : List �
 
     -- ---- the whole of Sys.init up to Main.main
 
-    abbrev halt_at : ℕ
-    halt_at = number (codes "Sys") (codes "halt")
-
-    abbrev halts : Text
-    halts = does 7 halt_at (Next (Return 8 (Literal 0)) End)
-
-    abbrev main_text : Text
-    main_text = does 6 main_at halts
-
-    abbrev keyboard_text : Text
-    keyboard_text = does 5 (init_at (codes "Keyboard")) main_text
-
-    abbrev output_text : Text
-    output_text = does 4 f keyboard_text
-
-    abbrev screen_text : Text
-    screen_text = does 3 (init_at (codes "Screen")) output_text
-
-    abbrev math_text : Text
-    math_text = does 2 (init_at (codes "Math")) screen_text
-
-    abbrev memory_text : Text
-    memory_text = does 1 (init_at (codes "Memory")) math_text
-
     abbrev pub main_waits : Frame
-    main_waits = (in_call g 0 sc wc (Next (Do 6 Open) halts) [] []).frame
+    main_waits = (in_call g 0 sc wc (Next (Do 6 Open) (halts p)) [] []).frame
 
-    pub started : Path subs 1734 (here_at memory_text ss0 ws0) (record { frames = new_frame subs main_at [] ∷ main_waits ∷ b ∷ bs; statics = sc; words = wc })
+    pub started : Path subs 1734 (here_at (memory_text p) ss0 ws0) (record { frames = new_frame subs (main_at p) [] ∷ main_waits ∷ b ∷ bs; statics = sc; words = wc })
     started =
-        let last : State = record { frames = new_frame subs main_at [] ∷ main_waits ∷ b ∷ bs; statics = sc; words = wc } in
-        let s0 = here_at memory_text ss0 ws0 in
-        let s1 = here_at math_text sa wa in
-        let s2 = here_at screen_text sa wa in
-        let s3 = here_at output_text sb wa in
-        let s4 = here_at keyboard_text sc wc in
-        let s5 = here_at main_text sc wc in
-        path_then subs 16 1718 s0 s1 last (memory_done 1 math_text)
-        (path_then subs 4 1714 s1 s2 last (nothing_done 2 (init_at (codes "Math")) (own_number core p 2) screen_text sa wa (called_at (codes "Math") (codes "init") ∙ is_math core p))
-        (path_then subs 6 1708 s2 s3 last (screen_done 3 output_text wa)
-        (path_then subs 1703 5 s3 s4 last (output_done 4 keyboard_text)
-        (path_then subs 4 1 s4 s5 last (nothing_done 5 (init_at (codes "Keyboard")) (own_number core p 1) main_text sc wc (called_at (codes "Keyboard") (codes "init") ∙ is_keyboard core p))
-        (path_one subs s5 last (calm_at subs b bs deeper g plain main_text sc wc (omega arith)) (one subs s5 last refl))))))
+        let last : State = record { frames = new_frame subs (main_at p) [] ∷ main_waits ∷ b ∷ bs; statics = sc; words = wc } in
+        let s0 = here_at (memory_text p) ss0 ws0 in
+        let s1 = here_at (math_text p) sa wa in
+        let s2 = here_at (screen_text p) sa wa in
+        let s3 = here_at (output_text p) sb wa in
+        let s4 = here_at (keyboard_text p) sc wc in
+        let s5 = here_at (main_text p) sc wc in
+        path_then subs 16 1718 s0 s1 last (memory_done 1 (math_text p))
+        (path_then subs 4 1714 s1 s2 last (nothing_done 2 (init_at p (codes "Math")) (own_number core p 2) (screen_text p) sa wa (called_at p (codes "Math") (codes "init") ∙ is_math core p))
+        (path_then subs 6 1708 s2 s3 last (screen_done 3 (output_text p) wa)
+        (path_then subs 1703 5 s3 s4 last (output_done 4 (keyboard_text p))
+        (path_then subs 4 1 s4 s5 last (nothing_done 5 (init_at p (codes "Keyboard")) (own_number core p 1) (main_text p) sc wc (called_at p (codes "Keyboard") (codes "init") ∙ is_keyboard core p))
+        (path_one subs s5 last (calm_at subs b bs deeper g plain (main_text p) sc wc (omega arith)) (one subs s5 last refl))))))

@@ -8,7 +8,7 @@ use Rattle.os_laws.specs.HeapCalls.{Holds, KeepsOthers}
 use Rattle.os_laws.proofs.KeepingStores as keeping
 use Rattle.os_laws.proofs.Parts.{all_split, last_ones}
 use Rattle.os_laws.proofs.Storing.{other_word}
-use Rattle.os_functions.specs.StringLaws.{stored}
+use Rattle.os_functions.specs.StringLaws.{with_heap_word}
 
 module _ (ws : List ℕ) (first : ℕ) (parts : List ℕ) (b : Block) (live : List Block) (heap : HeapOf ws first parts (b ∷ live)) where
   alone : NoneOverlap (map (part_of ws) (b ∷ live))
@@ -43,7 +43,7 @@ two_apart ws first parts b c live heap =
     ⊎_elim (λ l. inr (let r : b.place + b.words ≤ c.place = omega (arith, l, block, other) in r)) (λ r. inl (let l : c.place + c.words ≤ b.place = omega (arith, r, block, other) in l)) (alone ws first parts b (c ∷ live) heap).0.0
 
 -- a store into a block that is live
-pub stored_holds : (s : State) (free : ℕ) (live : List Block) (a w : ℕ) → IsKept live a → Holds s free live → Holds (record s { words = stored s.words a w }) free live
+pub stored_holds : (s : State) (free : ℕ) (live : List Block) (a w : ℕ) → IsKept live a → Holds s free live → Holds (record s { words = with_heap_word s.words a w }) free live
 stored_holds s free live a w k h = (
   h.0,
   record {
@@ -53,7 +53,7 @@ stored_holds s free live a w k h = (
 )
 
 -- it changes no word of the others
-pub stored_keeps : (s : State) (free : ℕ) (b : Block) (live : List Block) (a w : ℕ) → Holds s free (b ∷ live) → b.place ≤ a → a < b.place + b.words → KeepsOthers free live s (record s { words = stored s.words a w })
+pub stored_keeps : (s : State) (free : ℕ) (b : Block) (live : List Block) (a w : ℕ) → Holds s free (b ∷ live) → b.place ≤ a → a < b.place + b.words → KeepsOthers free live s (record s { words = with_heap_word s.words a w })
 stored_keeps s free b live a w h low high =
     let own = own_words s.words (slice_index s.statics free) h.0 b live h.1.heap in
     record {

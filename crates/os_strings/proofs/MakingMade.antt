@@ -21,7 +21,7 @@ use Rattle.os_laws.proofs.Searching.{Reaches}
 use Rattle.os_laws.proofs.Storing.{other_word}
 use Rattle.os_laws.proofs.Walking.{here, reaches}
 use Rattle.os_functions.specs.Calls.{routine_number, HasStatics, CallsNext, Returns}
-use Rattle.os_functions.specs.StringLaws.{StringAt, stored}
+use Rattle.os_functions.specs.StringLaws.{StringAt, with_heap_word}
 use Rattle.os_functions.proofs.ArrayRuns.{with_frames, has_heap}
 use Rattle.os_functions.proofs.Named.{leads, number_of, own_number}
 use Rattle.os_functions.proofs.NewArray.{made_new}
@@ -198,15 +198,15 @@ module _ {core : Core} {p : IsShipped core} {h : HasStatics p} {s : State} {max 
     holds3 : Holds t3 h.free live1
     holds3 =
         let a = stored_holds t1 h.free live1 o 0 (inl (inl (let l : o ≤ o = omega arith in l, let i : o < o + 3 = omega arith in i))) got1.heap in
-        let ta : State = record t1 { words = stored ws1 o 0 } in
+        let ta : State = record t1 { words = with_heap_word ws1 o 0 } in
         let b = stored_holds ta h.free live1 (o + 1) 0 (inl (inl (let l : o ≤ o + 1 = omega arith in l, let i : o + 1 < o + 3 = omega arith in i))) a in
-        let tb : State = record t1 { words = stored (stored ws1 o 0) (o + 1) 0 } in
+        let tb : State = record t1 { words = with_heap_word (with_heap_word ws1 o 0) (o + 1) 0 } in
         stored_holds tb h.free live1 (o + 2) max (inl (inl (let l : o ≤ o + 2 = omega arith in l, let i : o + 2 < o + 3 = omega arith in i))) b
 
     keeps3 : KeepsOthers h.free m.live s t3
     keeps3 =
-        let ta : State = record t1 { words = stored ws1 o 0 } in
-        let tb : State = record t1 { words = stored (stored ws1 o 0) (o + 1) 0 } in
+        let ta : State = record t1 { words = with_heap_word ws1 o 0 } in
+        let tb : State = record t1 { words = with_heap_word (with_heap_word ws1 o 0) (o + 1) 0 } in
         let a = stored_holds t1 h.free live1 o 0 (inl (inl (let l : o ≤ o = omega arith in l, let i : o < o + 3 = omega arith in i))) got1.heap in
         let b = stored_holds ta h.free live1 (o + 1) 0 (inl (inl (let l : o ≤ o + 1 = omega arith in l, let i : o + 1 < o + 3 = omega arith in i))) a in
         keeps_then h.free m.live s t1 t3 keeps1
@@ -219,25 +219,25 @@ module _ {core : Core} {p : IsShipped core} {h : HasStatics p} {s : State} {max 
     long3 : length ws3 ≡ 22528
     long3 = holds3.1.room.words
 
-    long_b : length (stored (stored ws1 o 0) (o + 1) 0) ≡ 22528
-    long_b = length-set (stored ws1 o 0) (o + 1 - 2048) 0 ∙ length-set ws1 (o - 2048) 0 ∙ long1
+    long_b : length (with_heap_word (with_heap_word ws1 o 0) (o + 1) 0) ≡ 22528
+    long_b = length-set (with_heap_word ws1 o 0) (o + 1 - 2048) 0 ∙ length-set ws1 (o - 2048) 0 ∙ long1
 
     field0 : word_at ws3 o ≡ 0
     field0 =
         let l = low_object in
         let i = high_object in
-        other_word (stored (stored ws1 o 0) (o + 1) 0) (o + 2) o max (omega arith) (omega (arith, l)) (λ e. omega (arith, e))
-        ∙ other_word (stored ws1 o 0) (o + 1) o 0 (omega (arith, l)) (omega (arith, l)) (λ e. omega (arith, e)) ∙ this_word ws1 o 0 long1 (omega (arith, l)) (omega (arith, i))
+        other_word (with_heap_word (with_heap_word ws1 o 0) (o + 1) 0) (o + 2) o max (omega arith) (omega (arith, l)) (λ e. omega (arith, e))
+        ∙ other_word (with_heap_word ws1 o 0) (o + 1) o 0 (omega (arith, l)) (omega (arith, l)) (λ e. omega (arith, e)) ∙ this_word ws1 o 0 long1 (omega (arith, l)) (omega (arith, i))
 
     field1 : word_at ws3 (o + 1) ≡ 0
     field1 =
         let l = low_object in
         let i = high_object in
-        other_word (stored (stored ws1 o 0) (o + 1) 0) (o + 2) (o + 1) max (omega arith) (omega (arith, l)) (λ e. omega (arith, e))
-        ∙ this_word (stored ws1 o 0) (o + 1) 0 (length-set ws1 (o - 2048) 0 ∙ long1) (omega (arith, l)) (omega (arith, i))
+        other_word (with_heap_word (with_heap_word ws1 o 0) (o + 1) 0) (o + 2) (o + 1) max (omega arith) (omega (arith, l)) (λ e. omega (arith, e))
+        ∙ this_word (with_heap_word ws1 o 0) (o + 1) 0 (length-set ws1 (o - 2048) 0 ∙ long1) (omega (arith, l)) (omega (arith, i))
 
     field2 : word_at ws3 (o + 2) ≡ max
-    field2 = let l = low_object in let i = high_object in this_word (stored (stored ws1 o 0) (o + 1) 0) (o + 2) max long_b (omega (arith, l)) (omega (arith, i))
+    field2 = let l = low_object in let i = high_object in this_word (with_heap_word (with_heap_word ws1 o 0) (o + 1) 0) (o + 2) max long_b (omega (arith, l)) (omega (arith, i))
 
     to_fields : word_lt max 0 ≡ 0 → Way subs' enough ((1 + (n1 + 1)) + (4 + 6)) start (over under (here_at ss o ws3 (after_fields subs' (new_at p) ss (array_at p))))
     to_fields is =
@@ -361,7 +361,7 @@ module _ {core : Core} {p : IsShipped core} {h : HasStatics p} {s : State} {max 
             d = got2.place
 
             abbrev ws5 : List ℕ
-            ws5 = stored t2.words o d
+            ws5 = with_heap_word t2.words o d
 
             abbrev last : State
             last = record (given_back s c.caller c.below o) { statics = t2.statics; words = ws5 }

@@ -5,7 +5,7 @@ use Rattle.jack_meaning.specs.Text.{Argument, Less, Expression, Literal, Value, 
 use Rattle.os_laws.specs.Heap.{word_at}
 use Rattle.os_laws.proofs.Runs.{Call, run}
 use Rattle.os_laws.proofs.Searching.{Reaches}
-use Rattle.os_functions.specs.StringLaws.{stored}
+use Rattle.os_functions.specs.StringLaws.{with_heap_word}
 use Rattle.os_functions.proofs.Pieces.{in_call, returns_value}
 use Rattle.os_functions.proofs.Texts.{error_text}
 
@@ -64,7 +64,7 @@ module _ (subs : List Subroutine) (g : ℕ) (ss : List ℕ) where
 
   -- the words with the three fields set
   abbrev pub with_fields : ℕ → ℕ → List ℕ → List ℕ
-  with_fields o max ws = stored (stored (stored ws o 0) (o + 1) 0) (o + 2) max
+  with_fields o max ws = with_heap_word (with_heap_word (with_heap_word ws o 0) (o + 1) 0) (o + 2) max
 
   abbrev pub after_fields : ℕ → Text
   after_fields array = Next (If 6 false (Name (Argument 0)) (Next (LetField 7 0 (asks_one array (Name (Argument 0)))) End) End) gives_this
@@ -78,7 +78,7 @@ module _ (subs : List Subroutine) (g : ℕ) (ss : List ℕ) where
   pub to_array : (o array max m : ℕ) (ws : List ℕ) → max ≡ suc m → run subs 3 (at_new o ws (after_fields array) max) ≡ Some (at_new o ws (characters_from (asks_one array (Value max))) max)
   to_array o array max m ws h = rw h refl
 
-  pub sets_characters : (o place max : ℕ) (ws : List ℕ) → Reaches o 0 o → run subs 2 (at_new o ws (characters_from (Value place)) max) ≡ Some (at_new o (stored ws o place) (returns_value 8 o End) max)
+  pub sets_characters : (o place max : ℕ) (ws : List ℕ) → Reaches o 0 o → run subs 2 (at_new o ws (characters_from (Value place)) max) ≡ Some (at_new o (with_heap_word ws o place) (returns_value 8 o End) max)
   sets_characters o place max ws r = rw (r.at, r.low, r.high) refl
 
   -- ---- dispose

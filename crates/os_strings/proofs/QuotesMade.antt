@@ -14,7 +14,7 @@ use Rattle.os_laws.proofs.Parts.{all_out, overlap_out}
 use Rattle.os_laws.proofs.Runs.{next_at}
 use Rattle.os_laws.proofs.Storing.{other_word}
 use Rattle.os_functions.specs.Calls.{routine_number, HasStatics, CallsNext, Returns}
-use Rattle.os_functions.specs.StringLaws.{StringAt, CallsString, stored}
+use Rattle.os_functions.specs.StringLaws.{StringAt, CallsString, with_heap_word}
 use Rattle.os_functions.proofs.ArrayRuns.{with_frames}
 use Rattle.os_functions.proofs.StringMade.{append_law}
 use Rattle.os_functions.proofs.Ways.{Way, way_then, way_of_call}
@@ -138,8 +138,8 @@ module _ {core : Core} (p : IsShipped core) (h : HasStatics p) (s : State) (f : 
       } in
       let appended = append_law p s1 o done room k room_left call in
       let (m, few, back) = appended.0 in
-      let wa = stored ws (t.place + n) k in
-      let wb = stored wa (o + 1) (n + 1) in
+      let wa = with_heap_word ws (t.place + n) k in
+      let wb = with_heap_word wa (o + 1) (n + 1) in
       let s2 = at (here (Value o)) wb in
       let same : given_back s1 waits below o ≡ at (here (Value o)) ws = ap (λ (x : Text). at x ws) (outer.fills o Open) in
       let ended : Way subs least m s1 s2 = subst (λ (z : State). Way subs least m s1 (record z { words = wb })) same (way_of_call subs least m s1 (record (given_back s1 waits below o) { words = wb }) (omega arith) back) in

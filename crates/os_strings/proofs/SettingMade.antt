@@ -25,7 +25,7 @@ use Rattle.os_laws.proofs.Runs.{Call, over, run}
 use Rattle.os_laws.proofs.Storing.{other_word}
 use Rattle.os_functions.specs.Calls.{routine_number, Returns}
 use Rattle.os_functions.specs.ErrorLaws.{shown_number}
-use Rattle.os_functions.specs.StringLaws.{StringAt, CallsString, stored}
+use Rattle.os_functions.specs.StringLaws.{StringAt, CallsString, with_heap_word}
 use Rattle.os_functions.proofs.Named.{leads, number_of, own_number}
 use Rattle.os_functions.proofs.OutputRoutines.{is_multiply, is_divide}
 use Rattle.os_functions.proofs.Pieces.{returns_value}
@@ -205,8 +205,8 @@ module _ {core : Core} (p : IsShipped core) (s : State) (o k : ℕ) (text : List
       let small = t.small in
       let object = t.object in
       let e = t.place + length text in
-      let ws1 = stored s.words e k in
-      let ws2 = stored ws1 (o + 1) (length text + 1) in
+      let ws1 = with_heap_word s.words e k in
+      let ws2 = with_heap_word ws1 (o + 1) (length text + 1) in
       let asks = at s.words (digit_end (asks_two (append_at p) (Value o) (Value k))) in
       let full : nat_eq (word_at s.words (o + 1)) (word_at s.words (o + 2)) ≡ false = ap (λ z. nat_eq z (word_at s.words (o + 2))) t.count ∙ ap (nat_eq (length text)) t.most ∙ other_numbers (length text) room h in
       let begun = entered (1 + 5) asks (to_append subs (digit_at p) o s.statics s.words (error_at p) (append_at p) k (o + 1) (o + 2) (at_count s.words o text room t) (at_most s.words o text room t) full) in
@@ -513,7 +513,7 @@ module _ {core : Core} (p : IsShipped core) (o room : ℕ) (text : List ℕ) whe
 -- ---- the whole
 
 -- a string with no character left
-emptied : (ws : List ℕ) (o : ℕ) (text : List ℕ) (room : ℕ) (t : StringAt ws o text room) → length ws ≡ 22528 → IsRewritten ws o t.place [] room (stored ws (o + 1) 0)
+emptied : (ws : List ℕ) (o : ℕ) (text : List ℕ) (room : ℕ) (t : StringAt ws o text room) → length ws ≡ 22528 → IsRewritten ws o t.place [] room (with_heap_word ws (o + 1) 0)
 emptied ws o text room t long =
     let object = t.object in
     record {
@@ -554,7 +554,7 @@ module _ {core : Core} (p : IsShipped core) (s : State) (o n : ℕ) (word : n < 
   stands ws x m = at_two all (set_at p) o s.statics ws x m []
 
   abbrev ws0 : List ℕ
-  ws0 = stored s.words (o + 1) 0
+  ws0 = with_heap_word s.words (o + 1) 0
 
   empty : IsRewritten s.words o t.place [] room ws0
   empty = emptied s.words o text room t c.words

@@ -5,7 +5,7 @@ use Rattle.jack_meaning.specs.Text.{Argument, Local, Less, Equal, Plus, Subtract
 use Rattle.os_laws.specs.Heap.{word_at}
 use Rattle.os_laws.proofs.Runs.{Call, run, run_then}
 use Rattle.os_laws.proofs.Searching.{Reaches}
-use Rattle.os_functions.specs.StringLaws.{stored}
+use Rattle.os_functions.specs.StringLaws.{with_heap_word}
 use Rattle.os_functions.proofs.Pieces.{in_call, returns_value}
 use Rattle.os_functions.proofs.Texts.{error_text}
 
@@ -117,7 +117,7 @@ module _ (subs : List Subroutine) (g o : ℕ) (ss ws : List ℕ) where
 
   -- ---- setInt
 
-  pub clears : (digit digits n a : ℕ) → Reaches o 1 a → run subs 2 (at_two (set_body digit digits) n []) ≡ Some (in_call g o ss (stored ws a 0) (sign_test digit digits) (o ∷ n ∷ []) [])
+  pub clears : (digit digits n a : ℕ) → Reaches o 1 a → run subs 2 (at_two (set_body digit digits) n []) ≡ Some (in_call g o ss (with_heap_word ws a 0) (sign_test digit digits) (o ∷ n ∷ []) [])
   clears digit digits n a r = rw (r.at, r.low, r.high) refl
 
   pub is_minus : (digit digits n : ℕ) → word_lt n 0 ≡ 65535 → run subs 6 (at_two (sign_test digit digits) n []) ≡ Some (at_two (minus_from (asks_two digit (Value o) (Value 45)) digits) n [])

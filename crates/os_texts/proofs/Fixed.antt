@@ -8,7 +8,7 @@ use Rattle.jack_os.specs.Routines.{multiply}
 use Rattle.jack_os.specs.RoutineTexts.{IsTextOf}
 use Rattle.jack_os.specs.System.{AreFilesOf, system}
 use Rattle.jack_os.proofs.SystemTexts.{system_classes, are_files, one_list}
-use Rattle.os_texts.specs.Texts.{FixedTextsLaw, class_named, declared, subroutine_in, sys_init_text, variables_of}
+use Rattle.os_texts.specs.Texts.{FixedTextsLaw, class_named, declaration_of, subroutine_in, sys_init_text, variables_of}
 
 abbrev tokens_in : Result (List Word) Fault → List Word
 tokens_in (Ok ts) = ts
@@ -27,11 +27,11 @@ is_init = refl
 told : IsTextOf init sys_init_text
 told = record { tokens = tokens_in (tokens_of sys_init_text); cut = refl; tell = (refl, (refl, ((refl, refl), (refl, (refl, (refl, ((refl, refl), ((refl, refl), (refl, ((refl, refl), (refl, (refl, (refl, ((refl, refl), ((refl, refl), (refl, ((refl, refl), (refl, (refl, (refl, ((refl, refl), ((refl, refl), (refl, ((refl, refl), (refl, (refl, (refl, ((refl, refl), ((refl, refl), (refl, ((refl, refl), (refl, (refl, (refl, ((refl, refl), ((refl, refl), (refl, ((refl, refl), (refl, (refl, (refl, ((refl, refl), ((refl, refl), (refl, ((refl, refl), (refl, (refl, (refl, ((refl, refl), ((refl, refl), (refl, ((refl, refl), (refl, (refl, (refl, ((refl, refl), (refl, ((refl, refl), tt)))))))))))))))))))))))))))))))))))))))))))))))))))))))))) }
 
-free : map declared (variables_of (class_named system_classes (codes "Memory"))) ≡ (Static, codes "Array", codes "free" ∷ []) ∷ []
+free : map declaration_of (variables_of (class_named system_classes (codes "Memory"))) ≡ (Static, codes "Array", codes "free" ∷ []) ∷ []
 free = refl
 
 pub law : FixedTextsLaw
 law = record {
   sys_init = λ cs k. subst (λ (ds : List ClassFile). (s : Subroutine) × (subroutine_in ds (codes "Sys") (codes "init") ≡ Some s) × IsTextOf s sys_init_text) (sym (one_list system cs system_classes k are_files)) (init, is_init, told);
-  free = λ cs k. subst (λ (ds : List ClassFile). map declared (variables_of (class_named ds (codes "Memory"))) ≡ (Static, codes "Array", codes "free" ∷ []) ∷ []) (sym (one_list system cs system_classes k are_files)) free;
+  free = λ cs k. subst (λ (ds : List ClassFile). map declaration_of (variables_of (class_named ds (codes "Memory"))) ≡ (Static, codes "Array", codes "free" ∷ []) ∷ []) (sym (one_list system cs system_classes k are_files)) free;
 }

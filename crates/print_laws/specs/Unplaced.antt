@@ -1,13 +1,8 @@
 -- A class without its places: what it says, wherever its tokens stand. (Abstract syntax: `Syntax.antt` of jack_tree;
 -- book, chapter 10, figure 10.5.)
 use Rattle.std.specs.Prelude.{◌≡◌, Option, Some, None, map}
-use Rattle.scan_text.specs.declared.Place.{Place}
 use Rattle.scan_text.specs.Text.{start}
 use Rattle.jack_tree.specs.Syntax.{Name, Constant, Integer, String, True, False, Null, This, Expression, Terms, Operations, NoOperation, Then, Term, Value, Variable, Element, Called, Group, Unary, Call, Calls, Expressions, NoExpression, More, Statement, Let, If, IfElse, While, Do, Return, Statements, End, Next, ValueType, Int, Char, Boolean, Object, Names, ClassVariables, Locals, Parameter, Subroutine, Class}
-
--- each place becomes that of the start of a text
-abbrev pub unplaced : Place → Place
-unplaced at = start
 
 abbrev pub unplaced_name : Name → Name
 unplaced_name n = record { text = n.text; place = start }

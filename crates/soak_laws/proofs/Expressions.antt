@@ -13,7 +13,7 @@ use Rattle.grammar.proofs.Spaced.{Digits, digits_of, differs}
 use Rattle.jack_tree.specs.declared.token.Kind.TheVariants as kind
 use Rattle.jack_tree.specs.Tokens.{keyword_of}
 use Rattle.jack_tree.specs.Syntax.{Operator, Plus, Minus, Times, Divide, And, Or, Less, Greater, Equal, Sign, Negate, Not, Integer, Terms, NoOperation, Then, Term, Value, Variable, Group, Unary}
-use Rattle.jack_lexer.specs.Tokens.{is_letter, is_name_byte}
+use Rattle.grammar.specs.Words.{is_letter, is_name_byte}
 use Rattle.jack_parser.specs.Grammar.{Fixed, Placed}
 use Rattle.jack_parser.specs.Spelling.{operator_tokens, sign_tokens, term_tokens}
 use Rattle.jack_parser.specs.Limits.{TermKeepsIn}

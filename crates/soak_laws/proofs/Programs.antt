@@ -11,7 +11,8 @@ use Rattle.grammar.proofs.Spaced.{every}
 use Rattle.jack_tree.specs.declared.token.Keyword.TheVariants as keyword
 use Rattle.jack_tree.specs.Tokens.{keyword_of}
 use Rattle.jack_tree.specs.Syntax.{Integer, Terms, NoOperation, Value, Variable, Called, Calls, More, NoExpression, Let, Return, Statement, Statements, End, Next, Int, Object, Static, Function, Subroutine, Class}
-use Rattle.jack_lexer.specs.Tokens.{tokens_of, is_letter, is_name_byte}
+use Rattle.grammar.specs.Words.{is_letter, is_name_byte}
+use Rattle.jack_lexer.specs.Tokens.{tokens_of}
 use Rattle.jack_parser.specs.Spelling.{Tokens, ◌·◌, key, name, symbol, Say, class_tokens}
 use Rattle.jack_parser.specs.Limits.{StatementsKeepIn, KeepsLimits}
 use Rattle.jack_parser.specs.Spelled.{SpellsClass}
