@@ -53,7 +53,7 @@ fn left_of(
 
 // The same without blocks.
 fn left(alloc: Global, nodes: Vec<Node>, keep: &[u32]) -> Result<Option<Rest>, AllocError> {
-    left_of(alloc, nodes, List::new(alloc), keep)
+    left_of(alloc, nodes, List::of(Vec::new(alloc)), keep)
 }
 
 fn found(nodes: usize, nands: usize, first: Option<u32>, second: Option<u32>) -> Option<Rest> {

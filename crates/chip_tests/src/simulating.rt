@@ -15,7 +15,7 @@ use std::test::Fail;
 #[test]
 fn nand_of_itself(rt: HostRuntime) -> Result<(), Fail> {
     let nodes = vec![in rt.alloc(); Node::Nand(0, 0)]?;
-    let blocks: List<Block> = List::new(rt.alloc());
+    let blocks: List<Block> = List::of(Vec::new(rt.alloc()));
     let is_refused = match Netlist::new(List::of(nodes), blocks) {
         Err(fault) => fault == NetFault::NotOrdered(0),
         Ok(_) => false,
@@ -41,7 +41,7 @@ fn seen_at_two_nands(alloc: Global, net: Netlist) -> Result<(bool, bool, bool), 
 #[test]
 fn two_nands(rt: HostRuntime) -> Result<(), Fail> {
     let nodes = vec![in rt.alloc(); Node::Pin, Node::Pin, Node::Nand(0, 1), Node::Nand(2, 2)]?;
-    let blocks: List<Block> = List::new(rt.alloc());
+    let blocks: List<Block> = List::of(Vec::new(rt.alloc()));
     match Netlist::new(List::of(nodes), blocks) {
         Err(_) => holds(&rt, "two Nands", false),
         Ok(net) => {
@@ -105,12 +105,12 @@ fn bits_in_each(alloc: Global) -> Result<List<List<bool>>, AllocError>
     ensures cycles { IfOk result (λ pins. length pins ≡ 20) }
     ensures bits { IfOk result (λ pins. All (λ bits. length bits ≡ 4) pins) }
 {
-    let mut pins = List::new(alloc);
+    let mut pins = Vec::new(alloc);
     for c in 0..20 {
         let bits = bits_in(alloc, c)?;
         pins.push(bits)?;
     }
-    Ok(pins)
+    Ok(List::of(pins))
 }
 
 // Of the words that are loaded at an address the last counts, and one past the words of the block does
@@ -471,7 +471,7 @@ fn rows_agree(alloc: Global, sim: &mut Sim) -> Result<bool, AllocError>
 #[test]
 fn rows(rt: HostRuntime) -> Result<(), Fail> {
     let nodes = row_nodes(rt.alloc())?;
-    let blocks: List<Block> = List::new(rt.alloc());
+    let blocks: List<Block> = List::of(Vec::new(rt.alloc()));
     match Netlist::new(nodes, blocks) {
         Err(_) => holds(&rt, "rows", false),
         Ok(net) => {

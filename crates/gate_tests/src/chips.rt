@@ -1,6 +1,6 @@
 //! Libraries of shipped chips and of chips from texts.
 
-ghost use Rattle.std.specs.Prelude.{◌≡◌, ◌⊎◌, None, IfOk, OnOk};
+ghost use Rattle.std.specs.Prelude.{◌≡◌, ◌⊎◌, None, IfOk};
 ghost use Rattle.hack_cpu.specs.Libraries.{IsLibrary, IsShippedAs};
 
 use chip_basic::nand_tree;
@@ -27,22 +27,25 @@ pub fn read(alloc: Global, text: &[u8]) -> Result<Chip, Fail> {
 }
 
 // Adds a chip under a name that no other has.
-fn add_entry(library: &mut Library, entry: Entry) -> Result<(), Fail>
-    requires library { IsLibrary library.old.entries }
+fn add_entry(library: Library, entry: Entry) -> Result<Library, Fail>
+    requires library { IsLibrary library.entries }
     requires known { (entry.shipped ≡ None) ⊎ IsShippedAs entry }
-    ensures { OnOk result (IsLibrary library.new.entries) }
+    ensures { IfOk result (λ library. IsLibrary library.entries) }
 {
-    if find_shipped(library, entry.name.as_bytes()).is_some() {
+    if find_shipped(&library, entry.name.as_bytes()).is_some() {
         return Err(Fail::from("no chip has this name"));
     }
-    library.entries.push(entry)?;
-    Ok(())
+    let mut entries = library.into_entries();
+    entries.push(entry)?;
+    Ok(Library {
+        entries: List::of(entries),
+    })
 }
 
 /// Adds the chip that a text spells, which has a name of its own.
-pub fn add_text(alloc: Global, library: &mut Library, text: &[u8]) -> Result<(), Fail>
-    requires { IsLibrary library.old.entries }
-    ensures { OnOk result (IsLibrary library.new.entries) }
+pub fn add_text(alloc: Global, library: Library, text: &[u8]) -> Result<Library, Fail>
+    requires { IsLibrary library.entries }
+    ensures { IfOk result (λ library. IsLibrary library.entries) }
 {
     let chip = read(alloc, text)?;
     let name = chip.name.clone()?;
@@ -74,13 +77,12 @@ pub fn shipped_nand(alloc: Global) -> Result<Entry, AllocError>
 pub fn library_of_own(alloc: Global, text: &[u8]) -> Result<Library, Fail>
     ensures { IfOk result (λ library. IsLibrary library.entries) }
 {
-    let mut library = Library {
-        entries: List::new(alloc),
+    let none = Library {
+        entries: List::of(Vec::new(alloc)),
     };
-    add_text(alloc, &mut library, text)?;
+    let library = add_text(alloc, none, text)?;
     let nand = shipped_nand(alloc)?;
-    add_entry(&mut library, nand)?;
-    Ok(library)
+    add_entry(library, nand)
 }
 
 /// The shipped chips, and those that these texts spell.
@@ -89,7 +91,7 @@ pub fn library_with(alloc: Global, texts: &[&[u8]]) -> Result<Library, Fail>
 {
     let mut library = shipped_library(alloc)?;
     for text in texts {
-        add_text(alloc, &mut library, *text)?;
+        library = add_text(alloc, library, *text)?;
     }
     Ok(library)
 }

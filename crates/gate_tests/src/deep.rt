@@ -13,7 +13,7 @@ use std::alloc::Global;
 use std::test::Fail;
 
 fn no_chips(alloc: Global) -> NamedChips
-    ensures library { IsLibrary result.entries }
+    ensures library { IsLibrary result.entries.items }
     ensures indexed { IsIndexed result }
 {
     NamedChips::new(alloc)
@@ -21,10 +21,10 @@ fn no_chips(alloc: Global) -> NamedChips
 
 // Adds a chip under a name that no other has.
 fn add_chip(alloc: Global, chips: &mut NamedChips, entry: Entry) -> Result<(), Fail>
-    requires library { IsLibrary chips.old.entries }
+    requires library { IsLibrary chips.old.entries.items }
     requires indexed { IsIndexed chips.old }
     requires known { (entry.shipped ≡ None) ⊎ IsShippedAs entry }
-    ensures library { OnOk result (IsLibrary chips.new.entries) }
+    ensures library { OnOk result (IsLibrary chips.new.entries.items) }
     ensures indexed { OnOk result (IsIndexed chips.new) }
 {
     if chips.has(entry.name.as_bytes()) {
@@ -36,9 +36,9 @@ fn add_chip(alloc: Global, chips: &mut NamedChips, entry: Entry) -> Result<(), F
 
 // Adds the chip that a text spells.
 fn add_text(alloc: Global, chips: &mut NamedChips, text: &[u8]) -> Result<(), Fail>
-    requires library { IsLibrary chips.old.entries }
+    requires library { IsLibrary chips.old.entries.items }
     requires indexed { IsIndexed chips.old }
-    ensures library { OnOk result (IsLibrary chips.new.entries) }
+    ensures library { OnOk result (IsLibrary chips.new.entries.items) }
     ensures indexed { OnOk result (IsIndexed chips.new) }
 {
     let chip = read(alloc, text)?;
@@ -56,9 +56,9 @@ fn add_text(alloc: Global, chips: &mut NamedChips, text: &[u8]) -> Result<(), Fa
 
 // Chip number `k` is made of the one before.
 fn add_next(alloc: Global, chips: &mut NamedChips, k: u32) -> Result<(), Fail>
-    requires library { IsLibrary chips.old.entries }
+    requires library { IsLibrary chips.old.entries.items }
     requires indexed { IsIndexed chips.old }
-    ensures library { OnOk result (IsLibrary chips.new.entries) }
+    ensures library { OnOk result (IsLibrary chips.new.entries.items) }
     ensures indexed { OnOk result (IsIndexed chips.new) }
 {
     let before = k.saturating_sub(1);
@@ -70,9 +70,9 @@ fn add_next(alloc: Global, chips: &mut NamedChips, k: u32) -> Result<(), Fail>
 
 // Nand, the first chip, and further ones, of which each is made of the one before; fifty thousand in all, behind Nand.
 fn stack(alloc: Global, chips: &mut NamedChips, first: &[u8]) -> Result<(), Fail>
-    requires library { IsLibrary chips.old.entries }
+    requires library { IsLibrary chips.old.entries.items }
     requires indexed { IsIndexed chips.old }
-    ensures { OnOk result (IsLibrary chips.new.entries) }
+    ensures { OnOk result (IsLibrary chips.new.entries.items) }
 {
     add_chip(alloc, chips, shipped_nand(alloc)?)?;
     add_text(alloc, chips, first)?;

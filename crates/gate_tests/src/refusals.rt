@@ -1,6 +1,6 @@
 //! Why chips have no netlist.
 
-ghost use Rattle.std.specs.Prelude.{IfOk, OnOk};
+ghost use Rattle.std.specs.Prelude.{IfOk};
 ghost use Rattle.hack_cpu.specs.Libraries.{IsLibrary};
 
 use crate::checks::is_told;
@@ -113,9 +113,9 @@ fn faults(rt: HostRuntime) -> Result<(), Fail> {
 }
 
 // Chip number `k` chains two of the one before.
-fn add_double(alloc: Global, library: &mut Library, k: u32) -> Result<(), Fail>
-    requires { IsLibrary library.old.entries }
-    ensures { OnOk result (IsLibrary library.new.entries) }
+fn add_double(alloc: Global, library: Library, k: u32) -> Result<Library, Fail>
+    requires { IsLibrary library.entries }
+    ensures { IfOk result (λ library. IsLibrary library.entries) }
 {
     let before = k.saturating_sub(1);
     let text = format!(in alloc;
@@ -128,10 +128,9 @@ fn add_double(alloc: Global, library: &mut Library, k: u32) -> Result<(), Fail>
 fn chained(alloc: Global, first: &[u8]) -> Result<Library, Fail>
     ensures { IfOk result (λ library. IsLibrary library.entries) }
 {
-    let mut library = shipped_library(alloc)?;
-    add_text(alloc, &mut library, first)?;
+    let mut library = add_text(alloc, shipped_library(alloc)?, first)?;
     for k in 1..41u32 {
-        add_double(alloc, &mut library, k)?;
+        library = add_double(alloc, library, k)?;
     }
     Ok(library)
 }

@@ -252,23 +252,32 @@ type Repeated<'a> = (&'a str, &'a str, u32, &'a str);
 
 const EMPTY_MAIN: Repeated<'static> = ("class Main { function void main() { } }", "", 0, "");
 
-// Texts, and lines that put more than a piece on out.
-const LONG: &[(&str, Repeated<'static>, &str)] = rows![
-    "a.asm", ("", "@7\n", 300, ""), "asm a.asm";
-    "a.asm", ("", "@7\n", 300, ""), "exec a.asm --cycles 1 --from 0 --to 2000";
-    "v/A.vm", ("", "push constant 7\n", 300, ""), "vm v --bare";
-    "v/A.vm", ("", "push constant 7\n", 300, ""), "show v/A.vm";
-    "C.jack", ("class C { function void f() { ", "return; ", 600, "} }"), "show C.jack";
-    "F.hdl", ("CHIP F { IN a; PARTS: ", "Not(in=a); ", 300, "}"), "show F.hdl";
-    "p/Main.jack", ( "class Main { function void main() { ", "do Main.main(); ", 300, "} }", ), "compile p";
-    "p/Main.jack", EMPTY_MAIN, "build p";
-    "p/Main.jack", EMPTY_MAIN, "map p";
-    "p/Main.jack", EMPTY_MAIN, "map p --format 1";
-    "p/Main.jack", EMPTY_MAIN, "run p --level jack --cycles 5 --show screen";
-    "t/a.tst", ("", "output, ", 3000, ""), "test t/a.tst";
+// A piece of 4,096 bytes, and ten of the next.
+const CUT: usize = 4106;
+
+// Texts, lines that put more than a piece on out, and what is there where the second put takes ten bytes alone.
+const LONG: &[(&str, Repeated<'static>, &str, usize)] = rows![
+    "a.asm", ("", "@7\n", 300, ""), "asm a.asm", CUT;
+    "a.asm", ("", "@7\n", 300, ""), "exec a.asm --cycles 1 --from 0 --to 2000", CUT;
+    "v/A.vm", ("", "push constant 7\n", 300, ""), "vm v --bare", CUT;
+    "v/A.vm", ("", "push constant 7\n", 300, ""), "show v/A.vm", CUT;
+    "C.jack", ("class C { function void f() { ", "return; ", 600, "} }"), "show C.jack", CUT;
+    "F.hdl", ("CHIP F { IN a; PARTS: ", "Not(in=a); ", 300, "}"), "show F.hdl", CUT;
+    "p/Main.jack", ( "class Main { function void main() { ", "do Main.main(); ", 300, "} }", ), "compile p", CUT;
+    "p/Main.jack", EMPTY_MAIN, "build p", CUT;
+    "p/Main.jack", EMPTY_MAIN, "map p", CUT;
+    "p/Main.jack", EMPTY_MAIN, "map p --format 1", CUT;
+    "p/Main.jack", EMPTY_MAIN, "run p --level jack --cycles 5 --show screen", CUT;
+    "p/Main.jack", EMPTY_MAIN, "run p --level vm --cycles 5 --show screen", CUT;
+    "p/Main.jack", EMPTY_MAIN, "run p --level hack --cycles 5 --show screen", CUT;
+    "p/Main.jack", EMPTY_MAIN, "run p --level gates --cycles 0 --show screen", CUT;
+    "p/Main.jack", ("class Main { function void main() { do Output.printString(\"", "a", 500, "\"); } }"), "run p --level jack --cycles 30000 --show heap", CUT;
+    // what it prints before the variables is put first; a local's name is longer than a piece
+    "p/Main.jack", ("class Main { function void main() { var int ", "a", 4200, "; } }"), "debug p --break Main.main:1 --cycles 30000", 51;
+    "t/a.tst", ("", "output, ", 3000, ""), "test t/a.tst", CUT;
 ];
 
-fn long_table() -> &'static [(&'static str, Repeated<'static>, &'static str)] {
+fn long_table() -> &'static [(&'static str, Repeated<'static>, &'static str, usize)] {
     LONG
 }
 
@@ -285,15 +294,15 @@ fn text_repeated(alloc: Global, repeated: &Repeated<'_>) -> Result<String, Fail>
     Ok(String::from_utf8_lossy(alloc, &text_of(alloc, &long)?)?)
 }
 
-// A line whose second put takes ten bytes alone has put a piece and these.
+// A line whose second put takes ten bytes alone has put the first and these. `chip` and `soak` put less than a piece.
 #[test]
 fn each_line_puts_pieces(rt: HostRuntime) -> Result<(), Fail> {
     let alloc = rt.alloc();
-    for (path, repeated, line) in long_table() {
+    for (path, repeated, line, length) in long_table() {
         let text = text_repeated(alloc, repeated)?;
-        is_cut(&rt, alloc, &[(*path, text.as_str())], line, PIECE + 10)?;
+        is_cut(&rt, alloc, &[(*path, text.as_str())], line, *length)?;
     }
     let files = [("p/Main.jack", EMPTY_MAIN.0)];
     let line = "run p --level gates --cycles 0 --show nets";
-    is_cut(&rt, alloc, &files, line, PIECE + 10)
+    is_cut(&rt, alloc, &files, line, CUT)
 }
