@@ -169,12 +169,6 @@ module _ (answer : List ℕ → Bool → Type 0) where
   pub keep_same : (names files : List (List ℕ)) (name : List ℕ) → AreKept answer names files → answer name false → AreKept answer (names ++ name ∷ []) files
   keep_same names files name (answers, all, e) here = (answers ++ false ∷ [], answered_more names answers name false all here, e ∙ sym (kept_no names answers name all))
 
-few_kept : (names : List (List ℕ)) (answers : List Bool) → length (files_among names answers) ≤ length names
-few_kept [] answers = omega arith
-few_kept (n ∷ ns) [] = omega arith
-few_kept (n ∷ ns) (true ∷ xs) = omega (arith, few_kept ns xs)
-few_kept (n ∷ ns) (false ∷ xs) = omega (arith, few_kept ns xs)
-
 -- what is listed of some entries
 pub listed : (answer : List ℕ → Bool → Type 0) (entries : List ℕ) (texts names : List (List ℕ)) → AreTaken (entries_of entries) texts → AreKept answer texts names → AreListed names
 listed answer entries texts names taken (answers, all, e) = record {
@@ -183,5 +177,4 @@ listed answer entries texts names taken (answers, all, e) = record {
   taken = taken;
   answers = answers;
   files = e;
-  few = let few = taken.few in omega (arith, few_kept texts answers, ap (length {A = List ℕ}) e);
 }

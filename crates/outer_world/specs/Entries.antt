@@ -1,5 +1,5 @@
 -- Which entries of a folder of the system are listed as names of files. From FORMATS, "Folders".
-use Rattle.std.specs.Prelude.{◌≡◌, ◌==◌, ◌≤◌, ◌<◌, ◌&&◌, ◌||◌, ◌⊎◌, ◌↔◌, [], ◌∷◌, ℕ, Bool, true, false, not, List, Result, Ok, Err, IsTrue, codes, length, if◌then◌else◌}
+use Rattle.std.specs.Prelude.{◌≡◌, ◌==◌, ◌≤◌, ◌<◌, ◌&&◌, ◌||◌, ◌⊎◌, ◌↔◌, ◌++◌, [], ◌∷◌, ℕ, Bool, true, false, not, List, Result, Ok, Err, IsTrue, codes, length, if◌then◌else◌}
 use Rattle.std.specs.List.{ends_with, filter, list_any, slice_split}
 use Rattle.std.specs.Str.{bytes_eq, is_utf8}
 use Rattle.std.specs.Fs.{IsFile, file_type}
@@ -57,6 +57,15 @@ MeansFile (Ok metadata) (Err fault) = ⊥
 MeansFile (Err error) (Ok is) = IsOfNoFile (error_kind error) × (is ≡ false)
 MeansFile (Err error) (Err fault) = (IsOfNoFile (error_kind error) → ⊥) × (fault ≡ error)
 
+-- Where the system was asked at a path so, its answer there is that of a regular file, or it is not.
+abbrev pub TellsFile : (List ℕ → Result Metadata Error → Type 0) → List ℕ → Bool → Type 0
+TellsFile asked path is = (answer : Result Metadata Error) × asked path answer × MeansFile answer (Ok is)
+
+-- The path of each entry begins so. An empty folder is the present one.
+abbrev pub front_of_paths : List ℕ → List ℕ
+front_of_paths [] = codes "./"
+front_of_paths (byte ∷ folder) = (byte ∷ folder) ++ codes "/"
+
 -- the names at which the answer is yes
 abbrev pub files_among : List (List ℕ) → List Bool → List (List ℕ)
 files_among [] answers = []
@@ -74,15 +83,15 @@ AreAnswered answer (name ∷ names) (is ∷ answers) = answer name is × AreAnsw
 abbrev pub AreKept : (List ℕ → Bool → Type 0) → List (List ℕ) → List (List ℕ) → Type 0
 AreKept answer names files = (answers : List Bool) × AreAnswered answer names answers × (files ≡ files_among names answers)
 
--- What is listed: of some entries of the system, the names that stay and at which its answer was yes. No more is known
--- of what the system says.
+-- What is listed: the names that stay of some entries, and of these those with some answer of yes. Entries and answers may
+-- be any, since nothing is known of the system. So a name that is listed is a text, neither empty nor dots, and has no
+-- zero byte; the names are at most 65,536. Which folder they are of is not said.
 pub record AreListed (names : List (List ℕ)) : Type 0 where
   pub entries : List ℕ
   pub texts : List (List ℕ)
   pub taken : AreTaken (entries_of entries) texts
   pub answers : List Bool
   pub files : names ≡ files_among texts answers
-  pub few : length names ≤ 65536
 
 -- What an answer of `list` says of the names of a folder on disk.
 abbrev pub ListsEntries : Listing → Type 0

@@ -1,9 +1,9 @@
 -- Shelves and sinks in memory: what they hold, which of their calls fail, and what they take.
-use Rattle.std.specs.Prelude.{◌≡◌, ◌==◌, ◌≤◌, ◌<◌, ◌+◌, ◌-◌, ◌^◌, ◌⊎◌, [], ◌∷◌, ℕ, Bool, true, false, List, Option, Some, None, Vec, map, min, unwrap_or, if◌then◌else◌}
+use Rattle.std.specs.Prelude.{◌≡◌, ◌==◌, ◌≤◌, ◌<◌, ◌+◌, ◌-◌, ◌^◌, ◌⊎◌, [], ◌∷◌, ℕ, zero, suc, Bool, true, false, List, Option, Some, None, Vec, map, min, unwrap_or, if◌then◌else◌}
 use Rattle.std.specs.Global.{Global}
 use Rattle.std.specs.List.{list_any}
 use Rattle.outer_world.specs.Files.{Files}
-use Rattle.outer_world.specs.State.{ShelfState, shelf_state}
+use Rattle.outer_world.specs.State.{ShelfState, SinkState, shelf_state, sink_state}
 use Rattle.outer_world.specs.declared.name.Name.{Name}
 use Rattle.outer_world.specs.declared.shelf.Listing.{Listing}
 use Rattle.outer_world.specs.declared.shelf.Listing.TheVariants as listing
@@ -28,7 +28,7 @@ pub record PlannedShelf : Type 0 where
   pub faults : ℕ
 
 -- a sink in memory: its bytes, the room for them, the calls that fail, each with the bytes that it still takes, and the counts
-pub record SinkState : Type 0 where
+pub record PlannedSink : Type 0 where
   pub bytes : List ℕ
   pub room : ℕ
   pub fails : List (ℕ × ℕ)
@@ -47,9 +47,18 @@ is_planned fails call = list_any (λ planned. planned == call) fails
 abbrev pub NoneToCome : List ℕ → ℕ → Type 0
 NoneToCome fails calls = (n : ℕ) → calls ≤ n → is_planned fails (next_count n) ≡ false
 
+-- Of so many calls after these, none is set up to fail.
+abbrev pub NoneOfNext : List ℕ → ℕ → ℕ → Type 0
+NoneOfNext fails calls zero = Unit {0}
+NoneOfNext fails calls (suc n) = (is_planned fails (next_count calls) ≡ false) × NoneOfNext fails (next_count calls) n
+
 -- what such a shelf is, as any shelf
 abbrev pub planned_state : PlannedShelf → ShelfState
 planned_state shelf = shelf_state (Some shelf.files) each_folder_there (NoneToCome shelf.fails shelf.calls)
+
+-- what such a sink is, as any sink
+abbrev pub planned_sink_state : PlannedSink → SinkState
+planned_sink_state sink = sink_state (Some sink.bytes) sink.faults
 
 -- A shelf in memory fails to list where the call is set up to fail, and at no other.
 abbrev pub ListsAsPlanned : Bool → Listing → Type 0

@@ -1,5 +1,5 @@
--- What a shelf is at a moment, and what its calls keep of it.
-use Rattle.std.specs.Prelude.{◌≡◌, ℕ, Bool, List, Option, None, true}
+-- What a shelf and a sink are at a moment, and what the calls of a shelf keep of it.
+use Rattle.std.specs.Prelude.{◌≡◌, ℕ, suc, Bool, List, Option, None, true}
 use Rattle.outer_world.specs.Files.{Files, LacksFile, LacksFolder}
 
 -- The state of a shelf: the files by path, where they are known; which folders are there, and one that is there may be empty; and that no call
@@ -30,3 +30,17 @@ MissesFile shelf path = shelf.unfailing → LacksFile shelf.files path
 -- or the folder is not there.
 abbrev pub MissesFolder : ShelfState → List ℕ → Type 0
 MissesFolder shelf folder = shelf.unfailing → LacksFolder shelf.files shelf.there folder
+
+-- What a call says of those that are set up to fail; before and now say of a number that none of so many to come is. The call is one of them. Where
+-- it is not set up to fail, it fails at most for what is missing.
+pub record SpendsCall (before now : ℕ → Type 0) (failed missing : Type 0) : Type 0 where
+  pub one : (n : ℕ) → before (suc n) → now n
+  pub planned : failed → before 1 → missing
+
+-- The state of a sink: the bytes written, where they are known, and how often a call has failed.
+pub record SinkState : Type 0 where
+  pub written : Option (List ℕ)
+  pub faults : ℕ
+
+abbrev pub sink_state : Option (List ℕ) → ℕ → SinkState
+sink_state written faults = record { written = written; faults = faults }

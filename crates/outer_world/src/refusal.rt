@@ -1,9 +1,9 @@
 //! The diagnostic of a fault, and its message.
 ghost use Rattle.std.specs.Prelude.{◌≡◌, ◌++◌, ◌∷◌, [], length};
-ghost use Rattle.outer_world.specs.Held.{HaveSameSink, pending, sink_of};
+ghost use Rattle.outer_world.specs.Held.{Buffers, HaveSameSink, pending, sink_of};
 ghost use Rattle.outer_world.specs.Inner.Parts.{front_of, rest_of};
 ghost use Rattle.outer_world.specs.Refusals.{detail_text, message, message_line};
-ghost use Rattle.outer_world.specs.Written.{CountsPut, Passes, Puts};
+ghost use Rattle.outer_world.specs.Written.{Puts};
 
 use crate::{Pieces, Put, Sink};
 use itoa::Buffer;
@@ -57,9 +57,8 @@ impl Diagnostic {
 
     /// Puts the line that reports it of the file at a path.
     pub fn put<S: Sink>(&self, path: &str, sink: &mut S) -> Put
-        ensures put { Puts (S.written sink.old) (S.written sink.new)
+        ensures put { Puts (S.state sink.old) (S.state sink.new)
             (message_line path.now self.now) result }
-        ensures counts { CountsPut (S.faults sink.old) (S.faults sink.new) result }
     {
         let mut pieces = Pieces::new(sink);
         put_whole(self, path, &mut pieces)
@@ -70,10 +69,8 @@ impl Diagnostic {
 fn put_whole<S: Sink>(told: &Diagnostic, path: &str, pieces: &mut Pieces<'_, S>) -> Put
     requires empty { pending pieces.old ≡ [] }
     ensures same_sink { HaveSameSink pieces.old pieces.new }
-    ensures put { Puts (S.written (sink_of pieces.old)) (S.written (sink_of pieces.new))
+    ensures put { Puts (S.state (sink_of pieces.old)) (S.state (sink_of pieces.new))
         (message_line path.now told.now) result }
-    ensures counts { CountsPut (S.faults (sink_of pieces.old))
-        (S.faults (sink_of pieces.new)) result }
 {
     match put_line(told, path, pieces) {
         Put::Done => pieces.finish(),
@@ -84,11 +81,7 @@ fn put_whole<S: Sink>(told: &Diagnostic, path: &str, pieces: &mut Pieces<'_, S>)
 // Hands the line to a buffer.
 fn put_line<S: Sink>(told: &Diagnostic, path: &str, pieces: &mut Pieces<'_, S>) -> Put
     ensures same_sink { HaveSameSink pieces.old pieces.new }
-    ensures passes { Passes (S.written (sink_of pieces.old))
-        (pending pieces.old) (S.written (sink_of pieces.new)) (pending pieces.new)
-        (message_line path.now told.now) result }
-    ensures counts { CountsPut (S.faults (sink_of pieces.old))
-        (S.faults (sink_of pieces.new)) result }
+    ensures passes { Buffers pieces.old pieces.new (message_line path.now told.now) result }
 {
     match put_front(told, path, pieces) {
         Put::Done => put_detail(&told.detail, pieces),
@@ -99,10 +92,7 @@ fn put_line<S: Sink>(told: &Diagnostic, path: &str, pieces: &mut Pieces<'_, S>) 
 // Hands the front of the line to a buffer, up to the word.
 fn put_front<S: Sink>(told: &Diagnostic, path: &str, pieces: &mut Pieces<'_, S>) -> Put
     ensures same_sink { HaveSameSink pieces.old pieces.new }
-    ensures passes { Passes (S.written (sink_of pieces.old)) (pending pieces.old)
-        (S.written (sink_of pieces.new)) (pending pieces.new) (front_of path.now told.now) result }
-    ensures counts { CountsPut (S.faults (sink_of pieces.old))
-        (S.faults (sink_of pieces.new)) result }
+    ensures passes { Buffers pieces.old pieces.new (front_of path.now told.now) result }
 {
     let mut first = Buffer::new();
     let mut second = Buffer::new();
@@ -123,11 +113,8 @@ fn put_place<S: Sink>(
     pieces: &mut Pieces<'_, S>,
 ) -> Put
     ensures same_sink { HaveSameSink pieces.old pieces.new }
-    ensures passes { Passes (S.written (sink_of pieces.old))
-        (pending pieces.old) (S.written (sink_of pieces.new)) (pending pieces.new)
+    ensures passes { Buffers pieces.old pieces.new
         (path.now ++ 58 ∷ (line.now ++ 58 ∷ (column.now ++ 58 ∷ 32 ∷ word.now))) result }
-    ensures counts { CountsPut (S.faults (sink_of pieces.old))
-        (S.faults (sink_of pieces.new)) result }
 {
     pieces.put_all(&[
         path.as_bytes(),
@@ -143,11 +130,7 @@ fn put_place<S: Sink>(
 // Hands the rest of the line to a buffer.
 fn put_detail<S: Sink>(detail: &Detail, pieces: &mut Pieces<'_, S>) -> Put
     ensures same_sink { HaveSameSink pieces.old pieces.new }
-    ensures passes { Passes (S.written (sink_of pieces.old))
-        (pending pieces.old) (S.written (sink_of pieces.new)) (pending pieces.new)
-        (rest_of (detail_text detail.now)) result }
-    ensures counts { CountsPut (S.faults (sink_of pieces.old))
-        (S.faults (sink_of pieces.new)) result }
+    ensures passes { Buffers pieces.old pieces.new (rest_of (detail_text detail.now)) result }
 {
     match detail {
         Detail::Nothing => pieces.put(b"\n"),

@@ -3,3 +3,4 @@ pub mod Told
 pub mod Spelling
 pub mod Names
 pub mod Once
+pub mod Failing

@@ -1,5 +1,5 @@
 -- What loading says: of what is loaded, of the line of a refusal, and of a fault of the shelf.
-use Rattle.std.specs.Prelude.{◌≡◌, ℕ, List, Option, Some, None, Result, Ok, Err}
+use Rattle.std.specs.Prelude.{◌≡◌, ℕ, suc, List, Option, Some, None, Result, Ok, Err}
 use Rattle.outer_world.specs.Faults.{Rose}
 use Rattle.outer_world.specs.Refusals.{Message, message_line}
 use Rattle.source_files.specs.declared.error.LoadError.{LoadError}
@@ -23,6 +23,19 @@ Loads good refused missed (Err errors.Memory) = Unit {0}
 abbrev pub CountsLoad : {A : Type 0} → ℕ → ℕ → Result A LoadError → Type 0
 CountsLoad shelf shelf' (Err errors.Failed) = Rose shelf shelf'
 CountsLoad shelf shelf' _ = shelf' ≡ shelf
+
+-- A fault of the shelf comes for this.
+abbrev pub FailsFor : {A : Type 0} → Type 0 → Result A LoadError → Type 0
+FailsFor why (Err errors.Failed) = why
+FailsFor why _ = Unit {0}
+
+-- What is loaded by one call of the shelf; before and now say of a number that none of so many of its calls to come is set up to fail. A fault is
+-- that of a call which was set up to fail, or of what is missing.
+abbrev pub SpendsOne : {A : Type 0} → (ℕ → Type 0) → (ℕ → Type 0) → Type 0 → Result A LoadError → Type 0
+SpendsOne before now missing (Ok loaded) = (n : ℕ) → before (suc n) → now n
+SpendsOne before now missing (Err (errors.Refused r)) = Unit {0}
+SpendsOne before now missing (Err errors.Failed) = before 1 → missing
+SpendsOne before now missing (Err errors.Memory) = Unit {0}
 
 -- A refusal reports this of what stands at a path, unless memory is wanting.
 abbrev pub Refused : List ℕ → Message → LoadError → Type 0

@@ -1,7 +1,7 @@
 -- What the text of a file spells, or why it is refused; and so of the files of a folder, each text read wholly before the next. (A language
 -- is given by what the text of a file of some name spells, and by why a text is refused.)
-use Rattle.std.specs.Prelude.{◌≡◌, ◌<◌, ◌≤◌, ◌++◌, ◌⊎◌, ℕ, List, [], ◌∷◌, Option, length, codes, decimal}
-use Rattle.outer_world.specs.Files.{Files, HasFile, path_in}
+use Rattle.std.specs.Prelude.{◌≡◌, ◌<◌, ◌≤◌, ◌++◌, ◌⊎◌, ◌+◌, ℕ, suc, Bool, List, [], ◌∷◌, Option, length, codes, decimal}
+use Rattle.outer_world.specs.Files.{Files, HasFile, LacksFile, LacksFolder, path_in}
 use Rattle.outer_world.specs.Refusals.{Message, message, message_line}
 use Rattle.source_files.specs.Folder.{AreSources, IsOverfull}
 
@@ -52,3 +52,17 @@ abbrev pub IsUnread : {A : Type 0} → (List ℕ → List ℕ → A → Type 0) 
 IsUnread spells refuses ending files folder line =
     IsOverfull files folder ending line
     ⊎ ((names : List (List ℕ)) × AreSources files folder ending names × IsFirstFaulty spells refuses files folder names line)
+
+-- A text of these names is not read, and each before it spells a source: no fault comes of a file behind one that is refused. One of the calls up to
+-- the one that reads it is set up to fail, or there is no such file. (Here unfailing n says that none of the next n calls of the shelf is.)
+abbrev pub FailsAtOne : {A : Type 0} → (List ℕ → List ℕ → A → Type 0) → (ℕ → Type 0) → Option Files → List ℕ → List (List ℕ) → Type 0
+FailsAtOne {A} spells unfailing files folder names =
+    (before : List (List ℕ)) × (name : List ℕ) × (after : List (List ℕ)) × (sources : List A)
+    × (names ≡ before ++ name ∷ after) × SpellEach spells files folder before sources
+    × (unfailing (length before + 1) → LacksFile files (path_in folder name))
+
+-- A fault of the shelf is that of the first call, which lists the folder, or of one of those that read its files in order.
+abbrev pub FailsInOrder : {A : Type 0} → (List ℕ → List ℕ → A → Type 0) → List ℕ → (ℕ → Type 0) → Option Files → (List ℕ → Bool) → List ℕ → Type 0
+FailsInOrder spells ending unfailing files there folder =
+    (unfailing 1 → LacksFolder files there folder)
+    ⊎ ((names : List (List ℕ)) × AreSources files folder ending names × FailsAtOne spells (λ n. unfailing (suc n)) files folder names)

@@ -4,12 +4,12 @@ ghost use Rattle.std.specs.List.Sorted.{IsPermutation, IsSorted};
 ghost use Rattle.std.specs.Ordering.{nat_cmp};
 ghost use Rattle.std.specs.Cmp.Lexicographic.{slice_cmp};
 ghost use Rattle.std.specs.declared.alloc.Global.{Global};
-ghost use Rattle.outer_world.specs.Files.{path_in};
+ghost use Rattle.outer_world.specs.Files.{LacksFile, LacksFolder, path_in};
 ghost use Rattle.outer_world.specs.State.{Keeps, MissesFile, MissesFolder};
 ghost use Rattle.source_files.specs.Folder.{AreNames, AreSources, IsOverfull, ending_in, stem_of};
-ghost use Rattle.source_files.specs.Loads.{CountsLoad, Loads};
+ghost use Rattle.source_files.specs.Loads.{CountsLoad, FailsFor, Loads, SpendsOne};
 ghost use Rattle.source_files.specs.Inner.Limits.{LacksOne, TellsOverfull};
-ghost use Rattle.source_files.specs.Sources.{FolderSpells, IsFaulty, IsFirstFaulty, IsUnread, SpellEach, SpellsAt};
+ghost use Rattle.source_files.specs.Sources.{FailsAtOne, FailsInOrder, FolderSpells, IsFaulty, IsFirstFaulty, IsUnread, SpellEach, SpellsAt};
 
 use crate::error::LoadError;
 use crate::language::Language;
@@ -75,6 +75,8 @@ fn names_in<F: Shelf>(
         result }
     ensures counts { CountsLoad (F.faults shelf.old) (F.faults shelf.new) result }
     ensures keeps { Keeps (F.state shelf.old) (F.state shelf.new) }
+    ensures spends { SpendsOne (F.unfailing_for shelf.old) (F.unfailing_for shelf.new)
+        (LacksFolder (F.state shelf.old).files (F.state shelf.old).there folder.now) result }
 {
     let names = match shelf.list(alloc, folder) {
         Listing::Names(names) => names,
@@ -107,6 +109,8 @@ fn sources_in<F: Shelf>(
         result }
     ensures counts { CountsLoad (F.faults shelf.old) (F.faults shelf.new) result }
     ensures keeps { Keeps (F.state shelf.old) (F.state shelf.new) }
+    ensures spends { SpendsOne (F.unfailing_for shelf.old) (F.unfailing_for shelf.new)
+        (LacksFolder (F.state shelf.old).files (F.state shelf.old).there folder.now) result }
 {
     let names = names_in(alloc, folder, ending, shelf)?;
     if names.len() > MOST_FILES {
@@ -130,6 +134,8 @@ fn load_in<L: Language, F: Shelf>(
         result }
     ensures counts { CountsLoad (F.faults shelf.old) (F.faults shelf.new) result }
     ensures keeps { Keeps (F.state shelf.old) (F.state shelf.new) }
+    ensures spends { SpendsOne (F.unfailing_for shelf.old) (F.unfailing_for shelf.new)
+        (LacksFile (F.state shelf.old).files (path_in folder.now name.now)) result }
 {
     let path = path_in(alloc, folder, name)?;
     load(alloc, language, path.as_str(), name, shelf)
@@ -153,6 +159,8 @@ fn load_each<L: Language, F: Shelf>(
         result }
     ensures counts { CountsLoad (F.faults shelf.old) (F.faults shelf.new) result }
     ensures keeps { Keeps (F.state shelf.old) (F.state shelf.new) }
+    ensures in_order { FailsFor (FailsAtOne (L.spells language.now) (F.unfailing_for shelf.old)
+        (F.state shelf.old).files folder.now names.now) result }
 {
     let mut sources = Vec::new(alloc);
     for name in names {
@@ -165,7 +173,7 @@ fn load_each<L: Language, F: Shelf>(
 /// What the texts of the folder's files spell whose names end so, in order of name.
 ///
 /// Otherwise the refusal of more than 256 files, else of the first with a fault, that the shelf failed, or want of memory. An honest shelf fails only
-/// for a folder that is not there.
+/// for a folder that is not there. No fault comes of a file behind one that is refused.
 pub fn load_folder<L: Language, F: Shelf>(
     alloc: Global,
     language: &L,
@@ -181,6 +189,9 @@ pub fn load_folder<L: Language, F: Shelf>(
         result }
     ensures counts { CountsLoad (F.faults shelf.old) (F.faults shelf.new) result }
     ensures keeps { Keeps (F.state shelf.old) (F.state shelf.new) }
+    ensures in_order { FailsFor (FailsInOrder
+        (L.spells language.now) ending.now (F.unfailing_for shelf.old)
+        (F.state shelf.old).files (F.state shelf.old).there folder.now) result }
 {
     let names = sources_in(alloc, folder, ending, shelf)?;
     load_each(alloc, language, folder, &names, shelf)

@@ -1,8 +1,9 @@
 //! The text of a file, and the source that it spells.
 ghost use Rattle.std.specs.Prelude.{ℕ, Vec};
 ghost use Rattle.std.specs.declared.alloc.Global.{Global};
+ghost use Rattle.outer_world.specs.Files.{LacksFile};
 ghost use Rattle.outer_world.specs.State.{Keeps, MissesFile};
-ghost use Rattle.source_files.specs.Loads.{CountsLoad, Loads};
+ghost use Rattle.source_files.specs.Loads.{CountsLoad, Loads, SpendsOne};
 ghost use Rattle.source_files.specs.Sources.{IsFaulty, IsPastLimit, IsText, SpellsAt};
 
 use crate::error::{LoadError, TextError};
@@ -25,6 +26,8 @@ pub fn load_text<F: Shelf>(alloc: Global, path: &str, shelf: &mut F) -> Result<V
         (MissesFile (F.state shelf.old) path.now) result }
     ensures counts { CountsLoad (F.faults shelf.old) (F.faults shelf.new) result }
     ensures keeps { Keeps (F.state shelf.old) (F.state shelf.new) }
+    ensures spends { SpendsOne (F.unfailing_for shelf.old) (F.unfailing_for shelf.new)
+        (LacksFile (F.state shelf.old).files path.now) result }
 {
     match shelf.read(alloc, path, FILE_LIMIT) {
         Reading::Bytes(text) => Ok(text),
@@ -54,6 +57,8 @@ pub fn load<L: Language, F: Shelf>(
         (MissesFile (F.state shelf.old) path.now) result }
     ensures counts { CountsLoad (F.faults shelf.old) (F.faults shelf.new) result }
     ensures keeps { Keeps (F.state shelf.old) (F.state shelf.new) }
+    ensures spends { SpendsOne (F.unfailing_for shelf.old) (F.unfailing_for shelf.new)
+        (LacksFile (F.state shelf.old).files path.now) result }
 {
     let text = load_text(alloc, path, shelf)?;
     match language.read(alloc, name, &text) {

@@ -1,8 +1,8 @@
 //! What a buffer before a sink does.
 ghost use Rattle.std.specs.Prelude.{◌≡◌, ◌≤◌, ◌+◌, ◌%◌, [], length, take};
 ghost use Rattle.std.specs.List.{flat_map};
-ghost use Rattle.outer_world.specs.Held.{HaveSameSink, held_count, pending, sink_of};
-ghost use Rattle.outer_world.specs.Written.{CountsPut, Passes, Puts};
+ghost use Rattle.outer_world.specs.Held.{Buffers, HaveSameSink, held_count, pending, sink_of};
+ghost use Rattle.outer_world.specs.Written.{Puts};
 
 use super::Pieces;
 use crate::{Put, Sink};
@@ -26,10 +26,7 @@ impl<'a, S: Sink> Pieces<'a, S> {
     fn fill(&mut self, part: &[u8]) -> Put
         requires { held_count self.old + length part.now ≤ 4096 }
         ensures same_sink { HaveSameSink self.old self.new }
-        ensures passes { Passes (S.written (sink_of self.old)) (pending self.old)
-            (S.written (sink_of self.new)) (pending self.new) part.now result }
-        ensures counts { CountsPut (S.faults (sink_of self.old))
-            (S.faults (sink_of self.new)) result }
+        ensures passes { Buffers self.old self.new part.now result }
         ensures pieces { result ≡ Put.Done
             → held_count self.new ≡ (held_count self.old + length part.now) % 4096 }
     {
@@ -46,10 +43,7 @@ impl<'a, S: Sink> Pieces<'a, S> {
     /// Puts a piece after what is pending. What does not fill the buffer is pending afterwards.
     pub fn put(&mut self, piece: &[u8]) -> Put
         ensures same_sink { HaveSameSink self.old self.new }
-        ensures passes { Passes (S.written (sink_of self.old)) (pending self.old)
-            (S.written (sink_of self.new)) (pending self.new) piece.now result }
-        ensures counts { CountsPut (S.faults (sink_of self.old))
-            (S.faults (sink_of self.new)) result }
+        ensures passes { Buffers self.old self.new piece.now result }
         ensures pieces { result ≡ Put.Done
             → held_count self.new ≡ (held_count self.old + length piece.now) % 4096 }
     {
@@ -67,11 +61,7 @@ impl<'a, S: Sink> Pieces<'a, S> {
     /// Puts these parts, one after another.
     pub fn put_all(&mut self, parts: &[&[u8]]) -> Put
         ensures same_sink { HaveSameSink self.old self.new }
-        ensures passes { Passes (S.written (sink_of self.old))
-            (pending self.old) (S.written (sink_of self.new)) (pending self.new)
-            (flat_map (λ part. part.now) parts.now) result }
-        ensures counts { CountsPut (S.faults (sink_of self.old))
-            (S.faults (sink_of self.new)) result }
+        ensures passes { Buffers self.old self.new (flat_map (λ part. part.now) parts.now) result }
         ensures pieces { result ≡ Put.Done → held_count self.new
             ≡ (held_count self.old + length (flat_map (λ part. part.now) parts.now)) % 4096 }
     {
@@ -87,10 +77,8 @@ impl<'a, S: Sink> Pieces<'a, S> {
     /// Puts what is pending.
     pub fn finish(&mut self) -> Put
         ensures same_sink { HaveSameSink self.old self.new }
-        ensures put { Puts (S.written (sink_of self.old)) (S.written (sink_of self.new))
+        ensures put { Puts (S.state (sink_of self.old)) (S.state (sink_of self.new))
             (pending self.old) result }
-        ensures counts { CountsPut (S.faults (sink_of self.old))
-            (S.faults (sink_of self.new)) result }
         ensures empty { pending self.new ≡ [] }
     {
         if self.len == 0 {
@@ -104,8 +92,7 @@ impl<'a, S: Sink> Pieces<'a, S> {
 
 fn put_front<S: Sink>(sink: &mut S, buffer: &[u8], len: usize) -> Put
     requires { len ≤ length buffer.now }
-    ensures put { Puts (S.written sink.old) (S.written sink.new) (take len buffer.now) result }
-    ensures counts { CountsPut (S.faults sink.old) (S.faults sink.new) result }
+    ensures put { Puts (S.state sink.old) (S.state sink.new) (take len buffer.now) result }
 {
     sink.put(&buffer[..len])
 }

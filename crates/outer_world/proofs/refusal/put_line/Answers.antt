@@ -9,11 +9,11 @@ use Rattle.outer_world.proofs.refusal.put_line.Goals as goal
 
 pub returns-in-Done-clause-passes : goal.returns-in-Done-clause-passes
 returns-in-Done-clause-passes g c =
-    let P : List ℕ → Type 0 = λ t. Passes (g.S.Sink.written c.args.pieces.now.sink.now) (take c.args.pieces.now.len c.args.pieces.now.buffer) (g.S.Sink.written c.put_detail.new.pieces.sink.now) (take c.put_detail.new.pieces.len c.put_detail.new.pieces.buffer) t c.put_detail.result in
+    let P : List ℕ → Type 0 = λ t. Passes (g.S.Sink.state c.args.pieces.now.sink.now) (take c.args.pieces.now.len c.args.pieces.now.buffer) (g.S.Sink.state c.put_detail.new.pieces.sink.now) (take c.put_detail.new.pieces.len c.put_detail.new.pieces.buffer) t c.put_detail.result in
     let e = ap (λ (m : Message). front_of c.args.path.now c.args.told.now ++ rest_of m.detail) c.told.view_is ∙ sym (line-parts c.args.path.now c.args.told.now) in
     subst P e (Passes-then _ _ _ _ _ _ _ _ _ c.in-Done.ensures.passes c.put_detail.ensures.passes)
 
 pub returns-in-Failed-clause-passes : goal.returns-in-Failed-clause-passes
 returns-in-Failed-clause-passes g c =
-    let P : List ℕ → Type 0 = λ t. Passes (g.S.Sink.written c.args.pieces.now.sink.now) (take c.args.pieces.now.len c.args.pieces.now.buffer) (g.S.Sink.written c.put_front.new.pieces.sink.now) (take c.put_front.new.pieces.len c.put_front.new.pieces.buffer) t put.Failed in
+    let P : List ℕ → Type 0 = λ t. Passes (g.S.Sink.state c.args.pieces.now.sink.now) (take c.args.pieces.now.len c.args.pieces.now.buffer) (g.S.Sink.state c.put_front.new.pieces.sink.now) (take c.put_front.new.pieces.len c.put_front.new.pieces.buffer) t put.Failed in
     subst P (sym (line-parts c.args.path.now c.args.told.now)) (Passes-cut _ _ _ _ _ _ c.in-Failed.ensures.passes)

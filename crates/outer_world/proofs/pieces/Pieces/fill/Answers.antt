@@ -15,7 +15,7 @@ pub returns-then-end-lt-PIECE-clause-passes : goal.returns-then-end-lt-PIECE-cla
 returns-then-end-lt-PIECE-clause-passes g c =
     let pending = c.args.self.now in
     let e = written_to pending.buffer c.copy_from_slice.new.self c.args.part.now pending.len (pending.len + length c.args.part.now - pending.len) (pending.len + length c.args.part.now) c.copy_from_slice.ensures.after refl (omega arith) in
-    let P : List ℕ → Type 0 = λ held. Passes (g.S.Sink.written pending.sink.now) (take pending.len pending.buffer) (g.S.Sink.written pending.sink.now) held c.args.part.now put.Done in
+    let P : List ℕ → Type 0 = λ held. Passes (g.S.Sink.state pending.sink.now) (take pending.len pending.buffer) (g.S.Sink.state pending.sink.now) held c.args.part.now put.Done in
     subst P (sym e) (Passes-pending _ _ _)
 
 pub returns-clause-passes : goal.returns-clause-passes
@@ -24,5 +24,5 @@ returns-clause-passes g c =
     let k = pending.len + length c.args.part.now - pending.len in
     let whole = put_mid pending.len k pending.buffer c.copy_from_slice.new.self in
     let e = written_to pending.buffer c.copy_from_slice.new.self c.args.part.now pending.len k 4096 c.copy_from_slice.ensures.after (omega arith) (omega arith) in
-    let P : List ℕ → Type 0 = λ y. Puts (g.S.Sink.written pending.sink.now) (g.S.Sink.written c.put.new.self) y c.put.result in
+    let P : List ℕ → Type 0 = λ y. Puts (g.S.Sink.state pending.sink.now) (g.S.Sink.state c.put.new.self) y c.put.result in
     Passes-put _ _ _ _ _ (subst P (sym (take_all 4096 whole (omega (arith, same_len_mid pending.len k pending.buffer c.copy_from_slice.new.self c.copy_from_slice.ensures.len))) ∙ e) c.put.ensures.put)
