@@ -1,5 +1,5 @@
 -- What a loop keeps: what is still to be read completes what was begun.
-use Rattle.std.proofs.Common.{◌≡◌, true, false, List, subst}
+use Rattle.std.proofs.Common.{◌≡◌, ◌∙◌, true, false, Bool, List, subst, sym}
 use Rattle.grammar.specs.declared.Fault.{Fault}
 use Rattle.grammar.specs.declared.ReadError.{ReadError}
 use Rattle.grammar.specs.Rules.{Rule, seq, repeat, name, Tree, Pair, More, NoMore, Node, Rules, enters, Reads, both, named, again, ended, Stops, second, in_name, in_repeat, later}
@@ -48,3 +48,7 @@ module _ {T S N V : Type 0} {g : Rules T S N V} where
   -- the part of the repetition that is being read stops
   pub halt_more : {whole a : Rule T S N V} {grow : Tree V → Tree V} {s s1 : S} {ts us : List T} {e : ReadError} → Continues T S N V g whole s ts grow (repeat a) s1 us → enters g a us ≡ true → Halt (Stops T S N V g s1 a us) e → Halt (Stops T S N V g s whole ts) e
   halt_more c i h = halt (λ f p. c.stops (in_repeat i p)) h
+
+  -- so it is where the code has tested that one more of the repetition begins
+  pub halt_tested : {whole a : Rule T S N V} {grow : Tree V → Tree V} {s s1 : S} {ts us : List T} {e : ReadError} {test : Bool} → Continues T S N V g whole s ts grow (repeat a) s1 us → test ≡ enters g a us → test ≡ true → Halt (Stops T S N V g s1 a us) e → Halt (Stops T S N V g s whole ts) e
+  halt_tested c b t h = halt_more c (sym b ∙ t) h

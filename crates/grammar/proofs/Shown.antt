@@ -1,5 +1,5 @@
 -- The printed form of a tree is that of its parts, one after another.
-use Rattle.std.proofs.Common.{◌≡◌, ℕ, zero, suc, ◌+◌, ◌<◌, ◌≤◌, List, [], ◌∷◌, ◌++◌, Option, length, take, get_or, map, append_assoc, refl, sym, ap, subst, ◌∙◌, arith}
+use Rattle.std.proofs.Common.{◌≡◌, ℕ, zero, suc, ◌+◌, ◌<◌, ◌≤◌, List, [], ◌∷◌, ◌++◌, length, take, get_or, map, append_assoc, refl, sym, ap, subst, ◌∙◌, arith}
 use Rattle.std.specs.Prelude.{Bool}
 use Rattle.std.specs.List.{flat_map}
 use Rattle.std.proofs.lemmas.List.{append-nil, map-append, take_more}
@@ -9,7 +9,8 @@ use Rattle.outer_world.specs.declared.sink.Put.{Put}
 use Rattle.outer_world.specs.declared.sink.Put.TheVariants as put
 use Rattle.outer_world.specs.declared.sink.Sink.{Ghosts}
 use Rattle.outer_world.specs.Held.{pending, sink_of}
-use Rattle.outer_world.specs.Written.{Got, Passes, Puts, CountsPut}
+use Rattle.outer_world.specs.State.{SinkState}
+use Rattle.outer_world.specs.Written.{Passes, Puts}
 use Rattle.outer_world.proofs.Passing.{Passes-then, Passes-cut, Passes-nothing, Puts-finished, Puts-failed}
 use Rattle.grammar.specs.Rules.{Rule, Rules, mark, word, end, seq, choice, option, repeat, name, within, Tree, Skip, Node, Leaf, Pair, Left, Right, Absent, Present, NoMore, More, tree_of_list}
 use Rattle.grammar.specs.Leaves.{leaves}
@@ -17,46 +18,44 @@ use Rattle.grammar.specs.Printed.{Wrote, Ended, Writes, Finishes, printed_by, se
 
 -- what is written
 
-failed_at : (a b c : Option (List ℕ)) (p q z t : List ℕ) → c ≡ b → Passes a p b q t put.Failed → Passes a p c z t put.Failed
-failed_at a b c p q z t e h = record { n = h.n; went = subst (λ (w : Option (List ℕ)). Got a w (take h.n (p ++ t))) (sym e) h.went; rest = λ d. absurd cc }
+failed_at : (a b c : SinkState) (p q z t : List ℕ) → c ≡ b → Passes a p b q t put.Failed → Passes a p c z t put.Failed
+failed_at a b c p q z t e h =
+    subst (λ (w : SinkState). Passes a p w z t put.Failed) (sym e) (record { n = h.n; went = h.went; rest = λ d. absurd cc; counts = h.counts })
 
-after_failure : (r : Put) (a b c : Option (List ℕ)) (p q z s t : List ℕ) (f g h : ℕ) → Wrote s put.Done a p f put.Failed b q g → Wrote t put.Failed b q g r c z h → Wrote (s ++ t) put.Done a p f r c z h
-after_failure put.Done a b c p q z s t f g h x y = absurd (let bad : put.Done ≡ put.Failed = y.0 in let none : ⊥ = cc in none)
-after_failure put.Failed a b c p q z s t f g h x y = (failed_at a b c p q z (s ++ t) y.1 (Passes-cut a b p q s t x.0), subst (λ (n : ℕ). CountsPut f n put.Failed) (sym y.2) x.1)
+after_failure : (r : Put) (a b c : SinkState) (p q z s t : List ℕ) → Wrote s put.Done a p put.Failed b q → Wrote t put.Failed b q r c z → Wrote (s ++ t) put.Done a p r c z
+after_failure put.Done a b c p q z s t x y = absurd (let bad : put.Done ≡ put.Failed = y.0 in let none : ⊥ = cc in none)
+after_failure put.Failed a b c p q z s t x y = failed_at a b c p q z (s ++ t) y.1 (Passes-cut a b p q s t x)
 
-wrote_then : (st r r2 : Put) (a b c : Option (List ℕ)) (p q z s t : List ℕ) (f g h : ℕ) → Wrote s st a p f r b q g → Wrote t r b q g r2 c z h → Wrote (s ++ t) st a p f r2 c z h
-wrote_then put.Done put.Done put.Done a b c p q z s t f g h x y = (Passes-then a b c p q z s t put.Done x.0 y.0, y.1 ∙ x.1)
-wrote_then put.Done put.Done put.Failed a b c p q z s t f g h x y = (Passes-then a b c p q z s t put.Failed x.0 y.0, subst (λ (n : ℕ). CountsPut n h put.Failed) x.1 y.1)
-wrote_then put.Done put.Failed r2 a b c p q z s t f g h x y = after_failure r2 a b c p q z s t f g h x y
-wrote_then put.Failed put.Done r2 a b c p q z s t f g h x y = absurd (let bad : put.Done ≡ put.Failed = x.0 in let none : ⊥ = cc in none)
-wrote_then put.Failed put.Failed r2 a b c p q z s t f g h x y = (y.0, y.1 ∙ x.1, y.2 ∙ x.2)
+wrote_then : (st r r2 : Put) (a b c : SinkState) (p q z s t : List ℕ) → Wrote s st a p r b q → Wrote t r b q r2 c z → Wrote (s ++ t) st a p r2 c z
+wrote_then put.Done put.Done r2 a b c p q z s t x y = Passes-then a b c p q z s t r2 x y
+wrote_then put.Done put.Failed r2 a b c p q z s t x y = after_failure r2 a b c p q z s t x y
+wrote_then put.Failed put.Done r2 a b c p q z s t x y = absurd (let bad : put.Done ≡ put.Failed = x.0 in let none : ⊥ = cc in none)
+wrote_then put.Failed put.Failed r2 a b c p q z s t x y = (y.0, y.1 ∙ x.1)
 
-wrote_nothing : (st : Put) (a : Option (List ℕ)) (p : List ℕ) (f : ℕ) → Wrote [] st a p f st a p f
-wrote_nothing put.Done a p f = (Passes-nothing a p, refl)
-wrote_nothing put.Failed a p f = (refl, refl, refl)
+wrote_nothing : (st : Put) (a : SinkState) (p : List ℕ) → Wrote [] st a p st a p
+wrote_nothing put.Done a p = Passes-nothing a p
+wrote_nothing put.Failed a p = (refl, refl)
 
-ended_then : (r r2 : Put) (a b c : Option (List ℕ)) (p q t : List ℕ) (f g h : ℕ) → p ≡ [] → Wrote t put.Done a p f r b q g → Ended r b q g r2 c h → Puts a c t r2 × CountsPut f h r2
-ended_then put.Done r2 a b c p q t f g h e x y =
-    (Puts-finished _ _ _ _ _ _ (subst (λ (l : List ℕ). Passes a l b q t put.Done) e x.0) y.0, subst (λ (n : ℕ). CountsPut n h r2) x.1 y.1)
-ended_then put.Failed r2 a b c p q t f g h e x y =
-    let went : Puts a c t put.Failed = subst (λ (w : Option (List ℕ)). Puts a w t put.Failed) (sym y.1) (Puts-failed _ _ _ _ (subst (λ (l : List ℕ). Passes a l b q t put.Failed) e x.0)) in
-    let counts : CountsPut f h put.Failed = subst (λ (n : ℕ). CountsPut f n put.Failed) (sym y.2) x.1 in
-    subst (λ (z : Put). Puts a c t z × CountsPut f h z) (sym y.0) (went, counts)
+ended_then : (r r2 : Put) (a b c : SinkState) (p q t : List ℕ) → p ≡ [] → Wrote t put.Done a p r b q → Ended r b q r2 c → Puts a c t r2
+ended_then put.Done r2 a b c p q t e x y = Puts-finished _ _ _ _ _ _ (subst (λ (l : List ℕ). Passes a l b q t put.Done) e x) y
+ended_then put.Failed r2 a b c p q t e x y =
+    let failed : Puts a b t put.Failed = Puts-failed _ _ _ _ (subst (λ (l : List ℕ). Passes a l b q t put.Failed) e x) in
+    subst (λ (z : Put). Puts a c t z) (sym y.0) (subst (λ (w : SinkState). Puts a w t put.Failed) (sym y.1) failed)
 
 module _ {K : Type 0} {told : Ghosts K} where
   pub writes_then : {s t : List ℕ} {u v w : Put} {a b c : Pieces K told} → Writes s u a v b → Writes t v b w c → Writes (s ++ t) u a w c
-  writes_then {s} {t} {u} {v} {w} x y = record { same_sink = y.same_sink ∙ x.same_sink; wrote = wrote_then u v w _ _ _ _ _ _ s t _ _ _ x.wrote y.wrote }
+  writes_then {s} {t} {u} {v} {w} x y = record { same_sink = y.same_sink ∙ x.same_sink; wrote = wrote_then u v w _ _ _ _ _ _ s t x.wrote y.wrote }
 
   pub writes_is : {s t : List ℕ} {u v : Put} {a b : Pieces K told} → s ≡ t → Writes s u a v b → Writes t u a v b
   writes_is {u = u} {v = v} {a = a} {b = b} e x = subst (λ (l : List ℕ). Writes l u a v b) e x
 
   pub writes_nothing : {u : Put} {a : Pieces K told} → Writes [] u a u a
-  writes_nothing {u} {a} = record { same_sink = refl; wrote = wrote_nothing u _ _ _ }
+  writes_nothing {u} {a} = record { same_sink = refl; wrote = wrote_nothing u _ _ }
 
   -- all that was put, from where nothing was pending
   pub put_whole : {t : List ℕ} {v w : Put} {a b c : Pieces K told} → pending a ≡ [] → Writes t put.Done a v b → Finishes v b w c
-      → Puts (told.written (sink_of a)) (told.written (sink_of c)) t w × CountsPut (told.faults (sink_of a)) (told.faults (sink_of c)) w
-  put_whole {t} {v} {w} e x f = ended_then v w _ _ _ _ _ t _ _ _ e x.wrote f.ended
+      → Puts (told.state (sink_of a)) (told.state (sink_of c)) t w
+  put_whole {t} {v} {w} e x f = ended_then v w _ _ _ _ _ t e x.wrote f.ended
 
 -- the printed form of some trees
 

@@ -14,6 +14,7 @@ use Rattle.grammar.specs.declared.Fault.{Fault}
 use Rattle.grammar.specs.Cutting.{Piece, Passed, Token, Wrong, closes_with_nothing, cut, cut_by, with_token, past_blank, past_blanks, tokens_between_blanks, too_long}
 use Rattle.grammar.specs.Words.{is_letter, is_name_byte, token_of, word_of}
 use Rattle.grammar.proofs.Cuts.{pending, within_limit, followed_is, none_is}
+use Rattle.grammar.proofs.Runs.{run_text}
 
 -- lists
 
@@ -252,6 +253,10 @@ letter_names b e = rw e refl
 pub named_front : {K : Type 0} (word_kind : List ℕ → K) (b : ℕ) (bs : List ℕ) → is_letter b ≡ true → Named word_kind (front is_name_byte (b ∷ bs)) (word_kind (front is_name_byte (b ∷ bs)))
 named_front word_kind b bs l =
     record { first = b; more = front is_name_byte bs; is = ap (λ (t : Bool). cond t (b ∷ front is_name_byte bs) []) (letter_names b l); letter = l; names = all_front is_name_byte bs; kind = refl }
+
+-- what holds of the word at the front holds of the text that its token takes
+pub word_taken : (P : List ℕ → Type 0) (b : ℕ) (bs : List ℕ) → is_letter b ≡ true → P (front is_name_byte (b ∷ bs)) → P (take (suc (length (front is_name_byte (b ∷ bs)) - 1)) (b ∷ bs))
+word_taken P b bs l h = subst P (sym (run_text is_name_byte (b ∷ bs) b refl (letter_names b l))) h
 
 module _ {K T : Type 0} (piece : List ℕ → Piece T) (made : K → List ℕ → Place → T) where
   -- a word is cut before a blank

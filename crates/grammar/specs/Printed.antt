@@ -1,6 +1,6 @@
 -- The printed form of a tree: its tokens with one space between them, and a line feed in its place after `{`, `}` and `;`. The book
 -- lays down no layout; this one is the project's own.
-use Rattle.std.specs.Prelude.{◌≡◌, ◌||◌, ◌++◌, ◌∷◌, [], ℕ, Bool, List, Option, map, codes, if◌then◌else◌}
+use Rattle.std.specs.Prelude.{◌≡◌, ◌||◌, ◌++◌, ◌∷◌, [], ℕ, Bool, List, map, codes, if◌then◌else◌}
 use Rattle.std.specs.List.{flat_map}
 use Rattle.std.specs.Str.{bytes_eq}
 use Rattle.outer_world.specs.declared.pieces.Pieces.{Pieces}
@@ -8,7 +8,8 @@ use Rattle.outer_world.specs.declared.sink.Put.{Put}
 use Rattle.outer_world.specs.declared.sink.Put.TheVariants as put
 use Rattle.outer_world.specs.declared.sink.Sink.{Ghosts}
 use Rattle.outer_world.specs.Held.{HaveSameSink, pending, sink_of}
-use Rattle.outer_world.specs.Written.{CountsPut, Passes, Puts}
+use Rattle.outer_world.specs.State.{SinkState}
+use Rattle.outer_world.specs.Written.{Passes, Puts}
 use Rattle.grammar.specs.Rules.{Rule, Rules, Tree}
 use Rattle.grammar.specs.Leaves.{leaves}
 
@@ -24,27 +25,26 @@ set_off w = w ++ (if ends_line w then 10 else 32) ∷ []
 abbrev pub printed_by : {T S N V : Type 0} → Rules T S N V → (V → List ℕ) → Tree V → Rule T S N V → List ℕ
 printed_by g said x rule = flat_map set_off (map said (leaves g x rule))
 
--- The answer so far, the bytes written, those pending and the count of faults, before and after a text: after a failure nothing more is
--- put.
-abbrev pub Wrote : List ℕ → Put → Option (List ℕ) → List ℕ → ℕ → Put → Option (List ℕ) → List ℕ → ℕ → Type 0
-Wrote text put.Done before pending faults answer now pending' faults' = Passes before pending now pending' text answer × CountsPut faults faults' answer
-Wrote text put.Failed before pending faults answer now pending' faults' = (answer ≡ put.Failed) × (now ≡ before) × (faults' ≡ faults)
+-- The answer so far, the sink and the bytes pending, before and after a text: after a failure nothing more is put.
+abbrev pub Wrote : List ℕ → Put → SinkState → List ℕ → Put → SinkState → List ℕ → Type 0
+Wrote text put.Done before pending answer now pending' = Passes before pending now pending' text answer
+Wrote text put.Failed before pending answer now pending' = (answer ≡ put.Failed) × (now ≡ before)
 
 -- how that ends: what is pending is put
-abbrev pub Ended : Put → Option (List ℕ) → List ℕ → ℕ → Put → Option (List ℕ) → ℕ → Type 0
-Ended put.Done before pending faults answer now faults' = Puts before now pending answer × CountsPut faults faults' answer
-Ended put.Failed before pending faults answer now faults' = (answer ≡ put.Failed) × (now ≡ before) × (faults' ≡ faults)
+abbrev pub Ended : Put → SinkState → List ℕ → Put → SinkState → Type 0
+Ended put.Done before pending answer now = Puts before now pending answer
+Ended put.Failed before pending answer now = (answer ≡ put.Failed) × (now ≡ before)
 
 module _ {S : Type 0} {told : Ghosts S} where
   -- A text was put after what was put before, where the answer so far is handed on.
   pub record Writes (text : List ℕ) (status : Put) (before : Pieces S told) (answer : Put) (after : Pieces S told) : Type 0 where
     pub same_sink : HaveSameSink before after
-    pub wrote : Wrote text status (told.written (sink_of before)) (pending before) (told.faults (sink_of before)) answer (told.written (sink_of after)) (pending after) (told.faults (sink_of after))
+    pub wrote : Wrote text status (told.state (sink_of before)) (pending before) answer (told.state (sink_of after)) (pending after)
 
   -- What was pending was put, unless something had failed before.
   pub record Finishes (status : Put) (before : Pieces S told) (answer : Put) (after : Pieces S told) : Type 0 where
     pub same_sink : HaveSameSink before after
-    pub ended : Ended status (told.written (sink_of before)) (pending before) (told.faults (sink_of before)) answer (told.written (sink_of after)) (told.faults (sink_of after))
+    pub ended : Ended status (told.state (sink_of before)) (pending before) answer (told.state (sink_of after))
 
 -- The printed form of a tree was put so.
 pub record Shows {T S N V K : Type 0} {told : Ghosts K} (g : Rules T S N V) (said : V → List ℕ) (x : Tree V) (rule : Rule T S N V) (status : Put) (before : Pieces K told) (answer : Put) (after : Pieces K told) : Type 0 where

@@ -6,7 +6,7 @@ ghost use Rattle.scan_text.specs.Text.{first, start, walk};
 ghost use Rattle.scan_text.specs.View.{left_bytes};
 ghost use Rattle.grammar.specs.Cutting.{Piece, NextBy, cut, cut_text, last_of};
 ghost use Rattle.grammar.specs.Lines.{comment_piece, line_end_piece, is_open, close};
-ghost use Rattle.grammar.specs.Placed.{placed};
+ghost use Rattle.grammar.specs.Placed.{token_at};
 ghost use Rattle.grammar.specs.Reading.{Gives};
 ghost use Rattle.grammar.specs.declared.lines.Placed.{Placed};
 
@@ -88,7 +88,7 @@ impl<K: LineKind> LineToken for Placed<K> {
 
     ghost piece = { K.piece };
 
-    ghost line_end_token = { placed K.line_end_kind };
+    ghost line_end_token = { token_at K.line_end_kind };
 
     ghost ends = { λ t. K.is_line_end t.kind };
 

@@ -12,7 +12,7 @@ use Rattle.grammar.specs.Rules.{Reads, marked, worded, at_end, both, right, ende
 use Rattle.word16.specs.Words.{has_bit}
 use Rattle.hack_asm.specs.declared.hack_tokens.Kind.{Kind}
 use Rattle.hack_asm.specs.declared.hack_tokens.Kind.TheVariants.{Digit, LineEnd}
-use Rattle.grammar.specs.Placed.{placed}
+use Rattle.grammar.specs.Placed.{token_at}
 use Rattle.hack_asm.specs.HackTokens.{Word as Token}
 use Rattle.hack_asm.specs.Faults.{TooLarge}
 use Rattle.hack_asm.specs.Image.{image_text, word_line}
@@ -39,22 +39,22 @@ on_four at = on (on (on (on at)))
 abbrev below : Place → Place
 below at = record { line = at.line + 1; column = 1 }
 
-digit_cut : (b : Bool) (last : Option Token) (at : Place) (bs : List ℕ) (ts : List Token) → the_cut (Some (placed (Digit b) at)) (on at) bs ≡ Ok ts → the_cut last at (byte b ∷ bs) ≡ Ok (placed (Digit b) at ∷ ts)
-digit_cut true last at bs ts e = ap (with_token (placed (Digit true) at)) e
-digit_cut false last at bs ts e = ap (with_token (placed (Digit false) at)) e
+digit_cut : (b : Bool) (last : Option Token) (at : Place) (bs : List ℕ) (ts : List Token) → the_cut (Some (token_at (Digit b) at)) (on at) bs ≡ Ok ts → the_cut last at (byte b ∷ bs) ≡ Ok (token_at (Digit b) at ∷ ts)
+digit_cut true last at bs ts e = ap (with_token (token_at (Digit true) at)) e
+digit_cut false last at bs ts e = ap (with_token (token_at (Digit false) at)) e
 
 abbrev four_tokens : Bool → Bool → Bool → Bool → Place → List Token → List Token
-four_tokens a b c d at ts = placed (Digit a) at ∷ placed (Digit b) (on at) ∷ placed (Digit c) (on (on at)) ∷ placed (Digit d) (on (on (on at))) ∷ ts
+four_tokens a b c d at ts = token_at (Digit a) at ∷ token_at (Digit b) (on at) ∷ token_at (Digit c) (on (on at)) ∷ token_at (Digit d) (on (on (on at))) ∷ ts
 
 abbrev fourth : Bool → Place → Option Token
-fourth d at = Some (placed (Digit d) (on (on (on at))))
+fourth d at = Some (token_at (Digit d) (on (on (on at))))
 
 four_cut : (a b c d : Bool) (last : Option Token) (at : Place) (bs : List ℕ) (ts : List Token) → the_cut (fourth d at) (on_four at) bs ≡ Ok ts → the_cut last at (byte a ∷ byte b ∷ byte c ∷ byte d ∷ bs) ≡ Ok (four_tokens a b c d at ts)
 four_cut a b c d last at bs ts e =
     digit_cut a last at (byte b ∷ byte c ∷ byte d ∷ bs) _
-    (digit_cut b (Some (placed (Digit a) at)) (on at) (byte c ∷ byte d ∷ bs) _
-    (digit_cut c (Some (placed (Digit b) (on at))) (on (on at)) (byte d ∷ bs) _
-    (digit_cut d (Some (placed (Digit c) (on (on at)))) (on (on (on at))) bs ts e)))
+    (digit_cut b (Some (token_at (Digit a) at)) (on at) (byte c ∷ byte d ∷ bs) _
+    (digit_cut c (Some (token_at (Digit b) (on at))) (on (on at)) (byte d ∷ bs) _
+    (digit_cut d (Some (token_at (Digit c) (on (on at)))) (on (on (on at))) bs ts e)))
 
 four_read : (end : Place) (a b c d : Bool) (at : Place) (us : List Token) → R end four (four_tokens a b c d at us) (four_tree a b c d) us
 four_read end a b c d at us = both (worded refl refl) (both (worded refl refl) (both (worded refl refl) (worded refl refl)))
@@ -77,7 +77,7 @@ abbrev behind : Place → Place
 behind at = on_four (last_four at)
 
 abbrev word_tokens : ℕ → Place → List Token → List Token
-word_tokens w at ts = part_tokens w 12 at (part_tokens w 8 (second at) (part_tokens w 4 (third at) (part_tokens w 0 (last_four at) (placed LineEnd (behind at) ∷ ts))))
+word_tokens w at ts = part_tokens w 12 at (part_tokens w 8 (second at) (part_tokens w 4 (third at) (part_tokens w 0 (last_four at) (token_at LineEnd (behind at) ∷ ts))))
 
 -- the bytes of four bits of a word, from bit k on, and those after the first four, the second four, and the third four
 abbrev part_bytes : ℕ → ℕ → List ℕ → List ℕ
@@ -92,15 +92,15 @@ third_bytes w bs = part_bytes w 4 (last_bytes w bs)
 abbrev second_bytes : ℕ → List ℕ → List ℕ
 second_bytes w bs = part_bytes w 8 (third_bytes w bs)
 
-word_cut : (w : ℕ) (last : Option Token) (at : Place) (bs : List ℕ) (ts : List Token) → the_cut (Some (placed LineEnd (behind at))) (below (behind at)) bs ≡ Ok ts → the_cut last at (word_line w ++ bs) ≡ Ok (word_tokens w at ts)
+word_cut : (w : ℕ) (last : Option Token) (at : Place) (bs : List ℕ) (ts : List Token) → the_cut (Some (token_at LineEnd (behind at))) (below (behind at)) bs ≡ Ok ts → the_cut last at (word_line w ++ bs) ≡ Ok (word_tokens w at ts)
 word_cut w last at bs ts e =
-    let ended : the_cut (fourth (has_bit w 0) (last_four at)) (behind at) (10 ∷ bs) ≡ Ok (placed LineEnd (behind at) ∷ ts) = ap (with_token (placed LineEnd (behind at))) e in
+    let ended : the_cut (fourth (has_bit w 0) (last_four at)) (behind at) (10 ∷ bs) ≡ Ok (token_at LineEnd (behind at) ∷ ts) = ap (with_token (token_at LineEnd (behind at))) e in
     four_cut (has_bit w 15) (has_bit w 14) (has_bit w 13) (has_bit w 12) last at (second_bytes w bs) _
     (four_cut (has_bit w 11) (has_bit w 10) (has_bit w 9) (has_bit w 8) (fourth (has_bit w 12) at) (second at) (third_bytes w bs) _
     (four_cut (has_bit w 7) (has_bit w 6) (has_bit w 5) (has_bit w 4) (fourth (has_bit w 8) (second at)) (third at) (last_bytes w bs) _
     (four_cut (has_bit w 3) (has_bit w 2) (has_bit w 1) (has_bit w 0) (fourth (has_bit w 4) (third at)) (last_four at) (10 ∷ bs) _ ended)))
 
-word_read : (end : Place) (w : ℕ) (at : Place) (ts : List Token) → R end sixteen (word_tokens w at ts) (word_tree w) (placed LineEnd (behind at) ∷ ts)
+word_read : (end : Place) (w : ℕ) (at : Place) (ts : List Token) → R end sixteen (word_tokens w at ts) (word_tree w) (token_at LineEnd (behind at) ∷ ts)
 word_read end w at ts =
     both (four_read end (has_bit w 15) (has_bit w 14) (has_bit w 13) (has_bit w 12) at _)
     (both (four_read end (has_bit w 11) (has_bit w 10) (has_bit w 9) (has_bit w 8) (second at) _)
@@ -114,7 +114,7 @@ on_lines ws = map (λ w. Some w) ws
 words_read : (ws : List ℕ) (last : Option Token) (at : Place) → is_open ends_line last ≡ false → (ts : List Token) × (the_cut last at (image_text ws) ≡ Ok ts) × ((end : Place) → R end lines ts (lines_tree (on_lines ws)) [])
 words_read [] last at shut = ([], ap Ok (close_none line_end_token ends_line last at shut), λ end. ended refl)
 words_read (w ∷ ws) last at shut =
-    let rest = words_read ws (Some (placed LineEnd (behind at))) (below (behind at)) refl in (
+    let rest = words_read ws (Some (token_at LineEnd (behind at))) (below (behind at)) refl in (
       word_tokens w at rest.0,
       word_cut w last at (image_text ws) rest.0 rest.1,
       λ end. again refl (right refl refl (both (word_read end w at rest.0) (marked refl))) (rest.2 end),

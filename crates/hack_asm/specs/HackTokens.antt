@@ -7,7 +7,7 @@ use Rattle.grammar.specs.Cutting.{Piece, Passed, Token, cut_text}
 use Rattle.grammar.specs.Lines.{line_end_piece}
 use Rattle.grammar.specs.Lines as lines
 use Rattle.grammar.specs.declared.lines.Placed.{Placed}
-use Rattle.grammar.specs.Placed.{placed}
+use Rattle.grammar.specs.Placed.{token_at}
 use Rattle.hack_asm.specs.declared.hack_tokens.Kind.{Kind}
 use Rattle.hack_asm.specs.declared.hack_tokens.Kind.TheVariants.{Digit, LineEnd}
 
@@ -17,14 +17,14 @@ Word = Placed Kind
 
 -- the line end at a place
 abbrev pub line_end_token : Place → Word
-line_end_token = placed LineEnd
+line_end_token = token_at LineEnd
 
 -- what begins at the first byte: each digit is a token of its own, and there are no blanks
 abbrev pub piece_at : Option ℕ → List ℕ → Piece Word
 piece_at None bs = Passed 0
 piece_at (Some b) bs =
-    if b == 48 then Token (placed (Digit false)) 0
-    else (if b == 49 then Token (placed (Digit true)) 0
+    if b == 48 then Token (token_at (Digit false)) 0
+    else (if b == 49 then Token (token_at (Digit true)) 0
     else line_end_piece line_end_token bs)
 
 abbrev pub piece : List ℕ → Piece Word

@@ -5,7 +5,7 @@ ghost use Rattle.scan_text.specs.Text.{first};
 ghost use Rattle.scan_text.specs.View.{left_bytes};
 ghost use Rattle.grammar.specs.Cutting.{NextBy};
 ghost use Rattle.grammar.specs.Cutting.{Token as Cut};
-ghost use Rattle.grammar.specs.Placed.{placed};
+ghost use Rattle.grammar.specs.Placed.{token_at};
 ghost use Rattle.grammar.specs.Reading.{Gives};
 ghost use Rattle.hack_asm.specs.HackTokens.{tokens_of, finish};
 
@@ -44,7 +44,7 @@ pub type Token = Placed<Kind>;
 
 fn digit(scan: &mut Scan, byte: u8, bit: bool) -> Result<Option<Token>, Fault>
     requires { first (left_bytes scan.old) ≡ Some byte }
-    ensures { NextBy (λ t. t) (Cut (placed (Kind.Digit bit)) 0) scan.old result scan.new }
+    ensures { NextBy (λ t. t) (Cut (token_at (Kind.Digit bit)) 0) scan.old result scan.new }
 {
     let place = scan.place();
     scan.skip(1);

@@ -1,8 +1,8 @@
 //! The text of an image.
 
 ghost use Rattle.std.specs.Prelude.{◌≡◌, []};
-ghost use Rattle.outer_world.specs.Held.{HaveSameSink, pending, sink_of};
-ghost use Rattle.outer_world.specs.Written.{CountsPut, Passes, Puts};
+ghost use Rattle.outer_world.specs.Held.{Buffers, HaveSameSink, pending, sink_of};
+ghost use Rattle.outer_world.specs.Written.{Puts};
 ghost use Rattle.hack_asm.specs.Image.{word_line, image_text};
 
 use outer_world::{Pieces, Put, Sink};
@@ -11,9 +11,7 @@ use word16::binary_digits;
 // The line of a word.
 fn put_word<S: Sink>(word: u16, out: &mut Pieces<'_, S>) -> Put
     ensures same_sink { HaveSameSink out.old out.new }
-    ensures passes { Passes (S.written (sink_of out.old)) (pending out.old)
-        (S.written (sink_of out.new)) (pending out.new) (word_line word) result }
-    ensures counts { CountsPut (S.faults (sink_of out.old)) (S.faults (sink_of out.new)) result }
+    ensures passes { Buffers out.old out.new (word_line word) result }
 {
     match out.put(&binary_digits(word)) {
         Put::Done => out.put(b"\n"),
@@ -24,9 +22,7 @@ fn put_word<S: Sink>(word: u16, out: &mut Pieces<'_, S>) -> Put
 /// Puts a line of sixteen binary digits for each word, the highest bit first.
 pub fn put_hack<S: Sink>(words: &[u16], out: &mut Pieces<'_, S>) -> Put
     ensures same_sink { HaveSameSink out.old out.new }
-    ensures passes { Passes (S.written (sink_of out.old)) (pending out.old)
-        (S.written (sink_of out.new)) (pending out.new) (image_text words.now) result }
-    ensures counts { CountsPut (S.faults (sink_of out.old)) (S.faults (sink_of out.new)) result }
+    ensures passes { Buffers out.old out.new (image_text words.now) result }
 {
     for word in words {
         match put_word(*word, out) {
@@ -41,9 +37,8 @@ pub fn put_hack<S: Sink>(words: &[u16], out: &mut Pieces<'_, S>) -> Put
 fn put_all_hack<S: Sink>(words: &[u16], out: &mut Pieces<'_, S>) -> Put
     requires { pending out.old ≡ [] }
     ensures same_sink { HaveSameSink out.old out.new }
-    ensures put { Puts (S.written (sink_of out.old)) (S.written (sink_of out.new))
+    ensures put { Puts (S.state (sink_of out.old)) (S.state (sink_of out.new))
         (image_text words.now) result }
-    ensures counts { CountsPut (S.faults (sink_of out.old)) (S.faults (sink_of out.new)) result }
 {
     match put_hack(words, out) {
         Put::Done => out.finish(),
@@ -53,8 +48,7 @@ fn put_all_hack<S: Sink>(words: &[u16], out: &mut Pieces<'_, S>) -> Put
 
 /// Writes the text of an image: a line of sixteen binary digits for each word, the highest bit first.
 pub fn write_hack<S: Sink>(words: &[u16], out: &mut S) -> Put
-    ensures put { Puts (S.written out.old) (S.written out.new) (image_text words.now) result }
-    ensures counts { CountsPut (S.faults out.old) (S.faults out.new) result }
+    ensures put { Puts (S.state out.old) (S.state out.new) (image_text words.now) result }
 {
     let mut pieces = Pieces::new(out);
     put_all_hack(words, &mut pieces)

@@ -3,8 +3,8 @@
 ghost use Rattle.std.specs.Prelude.{◌≡◌, ◌≤◌, [], length};
 ghost use Rattle.hack_isa.specs.Machine.{image_words};
 ghost use Rattle.hack_isa.specs.Table.{word_of};
-ghost use Rattle.outer_world.specs.Held.{HaveSameSink, pending, sink_of};
-ghost use Rattle.outer_world.specs.Written.{CountsPut, Passes, Puts};
+ghost use Rattle.outer_world.specs.Held.{Buffers, HaveSameSink, pending, sink_of};
+ghost use Rattle.outer_world.specs.Written.{Puts};
 ghost use Rattle.hack_asm.specs.Comps.{computations, text_in};
 ghost use Rattle.hack_asm.specs.Written.{destinations, jumps, computed_text, instr_text, asm_text, AreSpelled, WrittenMeans};
 
@@ -106,9 +106,7 @@ fn word_of_shift(memory: bool, left: bool, of_d: bool) -> u32
 // A computation, by its word without destination and jump, with those.
 fn put_computed<S: Sink>(word: u32, dest: u8, jump: u8, out: &mut Pieces<'_, S>) -> Put
     ensures same_sink { HaveSameSink out.old out.new }
-    ensures passes { Passes (S.written (sink_of out.old)) (pending out.old)
-        (S.written (sink_of out.new)) (pending out.new) (computed_text word dest jump) result }
-    ensures counts { CountsPut (S.faults (sink_of out.old)) (S.faults (sink_of out.new)) result }
+    ensures passes { Buffers out.old out.new (computed_text word dest jump) result }
 {
     out.put_all(&[dest_text(dest), comp_text(word), jump_text(jump), b"\n"])
 }
@@ -116,9 +114,7 @@ fn put_computed<S: Sink>(word: u32, dest: u8, jump: u8, out: &mut Pieces<'_, S>)
 // The line of an instruction.
 fn put_instr<S: Sink>(instr: &Instr, out: &mut Pieces<'_, S>) -> Put
     ensures same_sink { HaveSameSink out.old out.new }
-    ensures passes { Passes (S.written (sink_of out.old)) (pending out.old)
-        (S.written (sink_of out.new)) (pending out.new) (instr_text instr.now) result }
-    ensures counts { CountsPut (S.faults (sink_of out.old)) (S.faults (sink_of out.new)) result }
+    ensures passes { Buffers out.old out.new (instr_text instr.now) result }
 {
     match *instr {
         Instr::Address(n) => {
@@ -150,9 +146,7 @@ fn put_instr<S: Sink>(instr: &Instr, out: &mut Pieces<'_, S>) -> Put
 // The lines of instructions.
 fn put_asm<S: Sink>(instrs: &[Instr], out: &mut Pieces<'_, S>) -> Put
     ensures same_sink { HaveSameSink out.old out.new }
-    ensures passes { Passes (S.written (sink_of out.old)) (pending out.old)
-        (S.written (sink_of out.new)) (pending out.new) (asm_text instrs.now) result }
-    ensures counts { CountsPut (S.faults (sink_of out.old)) (S.faults (sink_of out.new)) result }
+    ensures passes { Buffers out.old out.new (asm_text instrs.now) result }
 {
     for instr in instrs {
         match put_instr(instr, out) {
@@ -167,9 +161,8 @@ fn put_asm<S: Sink>(instrs: &[Instr], out: &mut Pieces<'_, S>) -> Put
 fn put_all_asm<S: Sink>(instrs: &[Instr], out: &mut Pieces<'_, S>) -> Put
     requires { pending out.old ≡ [] }
     ensures same_sink { HaveSameSink out.old out.new }
-    ensures put { Puts (S.written (sink_of out.old)) (S.written (sink_of out.new))
+    ensures put { Puts (S.state (sink_of out.old)) (S.state (sink_of out.new))
         (asm_text instrs.now) result }
-    ensures counts { CountsPut (S.faults (sink_of out.old)) (S.faults (sink_of out.new)) result }
 {
     match put_asm(instrs, out) {
         Put::Done => out.finish(),
@@ -182,8 +175,7 @@ fn put_all_asm<S: Sink>(instrs: &[Instr], out: &mut Pieces<'_, S>) -> Put
 pub fn write_asm<S: Sink>(instrs: &[Instr], out: &mut S) -> Put
     requires spelled { AreSpelled instrs.now }
     requires few { length instrs.now ≤ image_words }
-    ensures put { Puts (S.written out.old) (S.written out.new) (asm_text instrs.now) result }
-    ensures counts { CountsPut (S.faults out.old) (S.faults out.new) result }
+    ensures put { Puts (S.state out.old) (S.state out.new) (asm_text instrs.now) result }
 {
     let mut pieces = Pieces::new(out);
     put_all_asm(instrs, &mut pieces)

@@ -1,5 +1,5 @@
 -- The text of a token with a blank after it is cut as that token again.
-use Rattle.std.proofs.Common.{◌≡◌, ℕ, ◌-◌, ◌≤◌, Bool, true, false, cond, List, [], ◌∷◌, ◌++◌, map, length, Ok, Option, Some, None, refl, sym, ap, subst, ◌∙◌, arith}
+use Rattle.std.proofs.Common.{◌≡◌, ℕ, ◌-◌, ◌≤◌, Bool, true, false, cond, List, [], ◌∷◌, ◌++◌, map, length, Ok, Option, Some, None, refl, sym, ap, ◌∙◌, arith}
 use Rattle.std.specs.Prelude as prelude
 use Rattle.std.specs.Prelude.{not, ◌||◌, ◌&&◌, codes}
 use Rattle.std.specs.List.{flat_map}
@@ -12,9 +12,8 @@ use Rattle.scan_text.specs.Text.{front, is_digit, digits, decimal, capped_count}
 use Rattle.scan_text.specs.Blanks.{blank}
 use Rattle.grammar.specs.declared.Fault.TheVariants.{Grammar}
 use Rattle.grammar.specs.Cutting.{Piece, Token, Wrong, past_blank}
-use Rattle.grammar.proofs.Runs.{run_text}
 use Rattle.grammar.proofs.Spaced as spaced
-use Rattle.grammar.proofs.Spaced.{All, all_every, front_all, differs, no_blank, no_comment, gap, gap_fails, take_none, front_taken, less_one, Digits, digits_of, plain, plain_is, plain_digits, letter_names, named_front, Each, GoodPiece, good_if}
+use Rattle.grammar.proofs.Spaced.{All, all_every, front_all, differs, no_blank, no_comment, gap, gap_fails, take_none, front_taken, less_one, Digits, digits_of, plain, plain_is, plain_digits, named_front, word_taken, Each, GoodPiece, good_if}
 use Rattle.hdl_tree.specs.Writable.{all, is_letter, is_name_byte, reserved_names, is_among, name_can}
 use Rattle.hdl_parser.specs.declared.token.Keyword.{Keyword}
 use Rattle.hdl_parser.specs.declared.token.Keyword.TheVariants as keyword
@@ -122,8 +121,7 @@ good_kind text n (Some w) k = tt
 good_word : (b : ℕ) (bs : List ℕ) → is_letter b ≡ true → GoodPiece GoodWord (word_piece (b ∷ bs))
 good_word b bs l at =
     let text = front is_name_byte (b ∷ bs) in
-    subst (λ (x : List ℕ). Good (word_kind text) x) (sym (run_text is_name_byte (b ∷ bs) b refl (letter_names b l)))
-    (good_kind text (named_front word_kind b bs l) (keyword_of text) refl)
+    word_taken (Good (word_kind text)) b bs l (good_kind text (named_front word_kind b bs l) (keyword_of text) refl)
 
 capped_within : (n : ℕ) → capped_count n ≤ 1000000001
 capped_within n = omega arith

@@ -4,7 +4,7 @@ ghost use Rattle.std.specs.Prelude.{◌≡◌, []};
 ghost use Rattle.grammar.specs.Printed.{Writes, set_off};
 ghost use Rattle.grammar.specs.Rules.{NoMore, option, repeat, tree_of_list};
 ghost use Rattle.outer_world.specs.Held.{HaveSameSink, pending, sink_of};
-ghost use Rattle.outer_world.specs.Written.{CountsPut, Puts};
+ghost use Rattle.outer_world.specs.Written.{Puts};
 ghost use Rattle.hdl_parser.specs.Tokens.{keyword_text};
 ghost use Rattle.hdl_parser.specs.Grammar.{body, builtin, chip, connection, indices, last, listing, name, next_of, part, parts, pin, pins, row, source, subscript, width_rule, selection};
 ghost use Rattle.hdl_parser.specs.Trees.{body_tree, builtin_tree, chip_tree, connection_tree, connections_tree, indices_tree, name_leaf, names_tree, next_tree, number_said, part_tree, parts_tree, pin_tree, pins_tree, source_tree, subscript_tree, truth, width_tree, selection_tree};
@@ -271,9 +271,8 @@ fn put_chip<S: Sink>(one: &Chip, status: Put, out: &mut Pieces<'_, S>) -> Put
 fn put_all<S: Sink>(chip: &Chip, out: &mut Pieces<'_, S>) -> Put
     requires { pending out.old ≡ [] }
     ensures same_sink { HaveSameSink out.old out.new }
-    ensures put { Puts (S.written (sink_of out.old)) (S.written (sink_of out.new))
+    ensures put { Puts (S.state (sink_of out.old)) (S.state (sink_of out.new))
         (chip_text chip.now) result }
-    ensures counts { CountsPut (S.faults (sink_of out.old)) (S.faults (sink_of out.new)) result }
 {
     let status = put_chip(chip, Put::Done, out);
     put_rest(status, out)
@@ -281,8 +280,7 @@ fn put_all<S: Sink>(chip: &Chip, out: &mut Pieces<'_, S>) -> Put
 
 /// Prints a chip: its tokens with one space between them, and a line feed in its place after `{`, `}` and `;`. It takes no memory.
 pub fn print<S: Sink>(chip: &Chip, out: &mut S) -> Put
-    ensures put { Puts (S.written out.old) (S.written out.new) (chip_text chip.now) result }
-    ensures counts { CountsPut (S.faults out.old) (S.faults out.new) result }
+    ensures put { Puts (S.state out.old) (S.state out.new) (chip_text chip.now) result }
 {
     let mut pieces = Pieces::new(out);
     put_all(chip, &mut pieces)

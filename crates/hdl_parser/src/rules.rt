@@ -51,7 +51,7 @@ fn pin<'a>(
 }
 
 // One pin or more.
-#[tactic(auto, using(crate::proofs::Exits::hdl_exits))]
+#[tactic(auto, using(crate::proofs::Exits::hdl_exits, grammar::proofs::Continues::halt_tested))]
 fn pin_list<'a>(
     alloc: Global,
     tokens: &'a [Token<'a>],
@@ -96,7 +96,7 @@ fn pins<'a>(
 }
 
 // One name or more.
-#[tactic(auto, using(crate::proofs::Exits::hdl_exits))]
+#[tactic(auto, using(crate::proofs::Exits::hdl_exits, grammar::proofs::Continues::halt_tested))]
 fn name_list<'a>(
     alloc: Global,
     tokens: &'a [Token<'a>],
@@ -258,7 +258,7 @@ fn connection<'a>(
 }
 
 // One connection or more.
-#[tactic(auto, using(crate::proofs::Exits::hdl_exits))]
+#[tactic(auto, using(crate::proofs::Exits::hdl_exits, grammar::proofs::Continues::halt_tested))]
 fn connections<'a>(
     alloc: Global,
     tokens: &'a [Token<'a>],

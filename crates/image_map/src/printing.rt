@@ -1,8 +1,8 @@
 //! Puts the text of a map.
 ghost use Rattle.std.specs.Prelude.{◌≡◌, [], map, get_or};
 ghost use Rattle.std.specs.List.{flat_map};
-ghost use Rattle.outer_world.specs.Held.{HaveSameSink, pending, sink_of};
-ghost use Rattle.outer_world.specs.Written.{CountsPut, Passes, Puts};
+ghost use Rattle.outer_world.specs.Held.{Buffers, HaveSameSink, pending, sink_of};
+ghost use Rattle.outer_world.specs.Written.{Puts};
 ghost use Rattle.image_map.specs.Text.{commit_line, map_text, point_line, point_text, shared_line};
 
 use crate::{ImageMap, PointRange};
@@ -22,9 +22,7 @@ fn name_at<'a>(names: &[&'a str], sub: u32) -> &'a str
 // The line of a range with the name of its subroutine.
 fn put_point<S: Sink>(name: &str, range: &PointRange, out: &mut Pieces<'_, S>) -> Put
     ensures same_sink { HaveSameSink out.old out.new }
-    ensures passes { Passes (S.written (sink_of out.old)) (pending out.old)
-        (S.written (sink_of out.new)) (pending out.new) (point_text name.now range.now) result }
-    ensures counts { CountsPut (S.faults (sink_of out.old)) (S.faults (sink_of out.new)) result }
+    ensures passes { Buffers out.old out.new (point_text name.now range.now) result }
 {
     let mut from = Buffer::new();
     let mut to = Buffer::new();
@@ -45,10 +43,8 @@ fn put_point<S: Sink>(name: &str, range: &PointRange, out: &mut Pieces<'_, S>) -
 // The lines of the points.
 fn put_points<S: Sink>(names: &[&str], points: &[PointRange], out: &mut Pieces<'_, S>) -> Put
     ensures same_sink { HaveSameSink out.old out.new }
-    ensures passes { Passes (S.written (sink_of out.old))
-        (pending out.old) (S.written (sink_of out.new)) (pending out.new)
+    ensures passes { Buffers out.old out.new
         (flat_map (point_line (map (λ n. n.now) names.now)) points.now) result }
-    ensures counts { CountsPut (S.faults (sink_of out.old)) (S.faults (sink_of out.new)) result }
 {
     for range in points {
         match put_point(name_at(names, range.point.sub), range, out) {
@@ -62,9 +58,7 @@ fn put_points<S: Sink>(names: &[&str], points: &[PointRange], out: &mut Pieces<'
 // The line of a commit.
 fn put_commit<S: Sink>(address: u16, out: &mut Pieces<'_, S>) -> Put
     ensures same_sink { HaveSameSink out.old out.new }
-    ensures passes { Passes (S.written (sink_of out.old)) (pending out.old)
-        (S.written (sink_of out.new)) (pending out.new) (commit_line address) result }
-    ensures counts { CountsPut (S.faults (sink_of out.old)) (S.faults (sink_of out.new)) result }
+    ensures passes { Buffers out.old out.new (commit_line address) result }
 {
     let mut digits = Buffer::new();
     out.put_all(&[b"commit ", digits.format(address).as_bytes(), b"\n"])
@@ -73,9 +67,7 @@ fn put_commit<S: Sink>(address: u16, out: &mut Pieces<'_, S>) -> Put
 /// The lines of commits.
 pub fn put_commits<S: Sink>(commits: &[u16], out: &mut Pieces<'_, S>) -> Put
     ensures same_sink { HaveSameSink out.old out.new }
-    ensures passes { Passes (S.written (sink_of out.old)) (pending out.old)
-        (S.written (sink_of out.new)) (pending out.new) (flat_map commit_line commits.now) result }
-    ensures counts { CountsPut (S.faults (sink_of out.old)) (S.faults (sink_of out.new)) result }
+    ensures passes { Buffers out.old out.new (flat_map commit_line commits.now) result }
 {
     for address in commits {
         match put_commit(*address, out) {
@@ -89,9 +81,7 @@ pub fn put_commits<S: Sink>(commits: &[u16], out: &mut Pieces<'_, S>) -> Put
 // The line of a routine.
 fn put_range<S: Sink>(range: (u32, u32), out: &mut Pieces<'_, S>) -> Put
     ensures same_sink { HaveSameSink out.old out.new }
-    ensures passes { Passes (S.written (sink_of out.old)) (pending out.old)
-        (S.written (sink_of out.new)) (pending out.new) (shared_line range) result }
-    ensures counts { CountsPut (S.faults (sink_of out.old)) (S.faults (sink_of out.new)) result }
+    ensures passes { Buffers out.old out.new (shared_line range) result }
 {
     let mut from = Buffer::new();
     let mut to = Buffer::new();
@@ -107,9 +97,7 @@ fn put_range<S: Sink>(range: (u32, u32), out: &mut Pieces<'_, S>) -> Put
 /// The lines of routines that commands share.
 pub fn put_shared<S: Sink>(shared: &[(u32, u32)], out: &mut Pieces<'_, S>) -> Put
     ensures same_sink { HaveSameSink out.old out.new }
-    ensures passes { Passes (S.written (sink_of out.old)) (pending out.old)
-        (S.written (sink_of out.new)) (pending out.new) (flat_map shared_line shared.now) result }
-    ensures counts { CountsPut (S.faults (sink_of out.old)) (S.faults (sink_of out.new)) result }
+    ensures passes { Buffers out.old out.new (flat_map shared_line shared.now) result }
 {
     for range in shared {
         match put_range(*range, out) {
@@ -123,10 +111,8 @@ pub fn put_shared<S: Sink>(shared: &[(u32, u32)], out: &mut Pieces<'_, S>) -> Pu
 // All lines.
 fn put_lines<S: Sink>(names: &[&str], mapping: &ImageMap, out: &mut Pieces<'_, S>) -> Put
     ensures same_sink { HaveSameSink out.old out.new }
-    ensures passes { Passes (S.written (sink_of out.old))
-        (pending out.old) (S.written (sink_of out.new)) (pending out.new)
+    ensures passes { Buffers out.old out.new
         (map_text (map (λ n. n.now) names.now) mapping.now) result }
-    ensures counts { CountsPut (S.faults (sink_of out.old)) (S.faults (sink_of out.new)) result }
 {
     match out.put(b"map 1\n") {
         Put::Done => {}
@@ -146,9 +132,8 @@ fn put_lines<S: Sink>(names: &[&str], mapping: &ImageMap, out: &mut Pieces<'_, S
 fn put_map<S: Sink>(names: &[&str], mapping: &ImageMap, out: &mut Pieces<'_, S>) -> Put
     requires { pending out.old ≡ [] }
     ensures same_sink { HaveSameSink out.old out.new }
-    ensures put { Puts (S.written (sink_of out.old)) (S.written (sink_of out.new))
+    ensures put { Puts (S.state (sink_of out.old)) (S.state (sink_of out.new))
         (map_text (map (λ n. n.now) names.now) mapping.now) result }
-    ensures counts { CountsPut (S.faults (sink_of out.old)) (S.faults (sink_of out.new)) result }
 {
     match put_lines(names, mapping, out) {
         Put::Done => out.finish(),
@@ -159,9 +144,8 @@ fn put_map<S: Sink>(names: &[&str], mapping: &ImageMap, out: &mut Pieces<'_, S>)
 /// Puts the map of an image. It has a line for each range of points, with the name of its subroutine, one for each commit, and one for each
 /// routine that commands share.
 pub fn show_map<S: Sink>(names: &[&str], mapping: &ImageMap, out: &mut S) -> Put
-    ensures put { Puts (S.written out.old) (S.written out.new)
+    ensures put { Puts (S.state out.old) (S.state out.new)
         (map_text (map (λ n. n.now) names.now) mapping.now) result }
-    ensures counts { CountsPut (S.faults out.old) (S.faults out.new) result }
 {
     let mut pieces = Pieces::new(out);
     put_map(names, mapping, &mut pieces)

@@ -1,8 +1,8 @@
 //! Puts the map of a program in its second form.
 ghost use Rattle.std.specs.Prelude.{◌≡◌, ◌≤◌, [], slice_get};
 ghost use Rattle.std.specs.List.{flat_map};
-ghost use Rattle.outer_world.specs.Held.{HaveSameSink, pending, sink_of};
-ghost use Rattle.outer_world.specs.Written.{CountsPut, Passes, Puts};
+ghost use Rattle.outer_world.specs.Held.{Buffers, HaveSameSink, pending, sink_of};
+ghost use Rattle.outer_world.specs.Written.{Puts};
 ghost use Rattle.jack_debug.specs.MapText.{class_lines, field_line, field_lines, form_word, image_lines, lines_of_class, lines_of_sub, map_text, point_line, point_text, program_lines, static_line, sub_line, sub_lines, sub_text, variable_line, variable_lines, word_line};
 ghost use Rattle.jack_debug.specs.Walk.{sub_at};
 
@@ -16,10 +16,7 @@ use outer_world::{Name, Pieces, Put, Sink};
 // The line of a range of points, with the names of their subroutine and of its file.
 fn put_point<S: Sink>(name: &str, file: &str, range: &PlacedRange, out: &mut Pieces<'_, S>) -> Put
     ensures same_sink { HaveSameSink out.old out.new }
-    ensures passes { Passes (S.written (sink_of out.old))
-        (pending out.old) (S.written (sink_of out.new)) (pending out.new)
-        (point_text name.now file.now range.now) result }
-    ensures counts { CountsPut (S.faults (sink_of out.old)) (S.faults (sink_of out.new)) result }
+    ensures passes { Buffers out.old out.new (point_text name.now file.now range.now) result }
 {
     let mut from = Buffer::new();
     let mut to = Buffer::new();
@@ -48,9 +45,7 @@ fn put_point<S: Sink>(name: &str, file: &str, range: &PlacedRange, out: &mut Pie
 // The same by its places.
 fn put_range<S: Sink>(places: &Places, range: &PlacedRange, out: &mut Pieces<'_, S>) -> Put
     ensures same_sink { HaveSameSink out.old out.new }
-    ensures passes { Passes (S.written (sink_of out.old)) (pending out.old)
-        (S.written (sink_of out.new)) (pending out.new) (point_line places.now range.now) result }
-    ensures counts { CountsPut (S.faults (sink_of out.old)) (S.faults (sink_of out.new)) result }
+    ensures passes { Buffers out.old out.new (point_line places.now range.now) result }
 {
     let name = places.name(range.point.sub);
     let file = places.file(range.point.sub);
@@ -60,10 +55,7 @@ fn put_range<S: Sink>(places: &Places, range: &PlacedRange, out: &mut Pieces<'_,
 // The lines of the points.
 fn put_points<S: Sink>(places: &Places, ranges: &[PlacedRange], out: &mut Pieces<'_, S>) -> Put
     ensures same_sink { HaveSameSink out.old out.new }
-    ensures passes { Passes (S.written (sink_of out.old))
-        (pending out.old) (S.written (sink_of out.new)) (pending out.new)
-        (flat_map (point_line places.now) ranges.now) result }
-    ensures counts { CountsPut (S.faults (sink_of out.old)) (S.faults (sink_of out.new)) result }
+    ensures passes { Buffers out.old out.new (flat_map (point_line places.now) ranges.now) result }
 {
     for range in ranges {
         match put_range(places, range, out) {
@@ -83,10 +75,7 @@ fn put_variable<'a, S: Sink>(
     out: &mut Pieces<'_, S>,
 ) -> Put
     ensures same_sink { HaveSameSink out.old out.new }
-    ensures passes { Passes (S.written (sink_of out.old))
-        (pending out.old) (S.written (sink_of out.new)) (pending out.new)
-        (variable_line sub.now kind.now k name.now) result }
-    ensures counts { CountsPut (S.faults (sink_of out.old)) (S.faults (sink_of out.new)) result }
+    ensures passes { Buffers out.old out.new (variable_line sub.now kind.now k name.now) result }
 {
     let mut index = Buffer::new();
     let kind = kind.as_bytes();
@@ -106,10 +95,8 @@ fn put_variables<'a, S: Sink>(
 ) -> Put
     requires { first ≤ 1 }
     ensures same_sink { HaveSameSink out.old out.new }
-    ensures passes { Passes (S.written (sink_of out.old))
-        (pending out.old) (S.written (sink_of out.new)) (pending out.new)
+    ensures passes { Buffers out.old out.new
         (variable_lines sub.now kind.now first names.now) result }
-    ensures counts { CountsPut (S.faults (sink_of out.old)) (S.faults (sink_of out.new)) result }
 {
     for (i, name) in names.iter().enumerate() {
         match put_variable(sub, kind, name, first + i, out) {
@@ -140,10 +127,7 @@ fn put_counts<S: Sink>(
     out: &mut Pieces<'_, S>,
 ) -> Put
     ensures same_sink { HaveSameSink out.old out.new }
-    ensures passes { Passes (S.written (sink_of out.old))
-        (pending out.old) (S.written (sink_of out.new)) (pending out.new)
-        (sub_text name.now form.now arguments locals) result }
-    ensures counts { CountsPut (S.faults (sink_of out.old)) (S.faults (sink_of out.new)) result }
+    ensures passes { Buffers out.old out.new (sub_text name.now form.now arguments locals) result }
 {
     let mut first = Buffer::new();
     let mut second = Buffer::new();
@@ -163,9 +147,7 @@ fn put_counts<S: Sink>(
 // The line of a subroutine.
 fn put_sub_line<S: Sink>(sub: &SubPlaces, out: &mut Pieces<'_, S>) -> Put
     ensures same_sink { HaveSameSink out.old out.new }
-    ensures passes { Passes (S.written (sink_of out.old)) (pending out.old)
-        (S.written (sink_of out.new)) (pending out.new) (sub_line sub.now) result }
-    ensures counts { CountsPut (S.faults (sink_of out.old)) (S.faults (sink_of out.new)) result }
+    ensures passes { Buffers out.old out.new (sub_line sub.now) result }
 {
     let form = form_word(sub.form);
     let first = first_named(sub.form);
@@ -177,9 +159,7 @@ fn put_sub_line<S: Sink>(sub: &SubPlaces, out: &mut Pieces<'_, S>) -> Put
 // The lines of a subroutine and its variables.
 fn put_sub<S: Sink>(sub: &SubPlaces, out: &mut Pieces<'_, S>) -> Put
     ensures same_sink { HaveSameSink out.old out.new }
-    ensures passes { Passes (S.written (sink_of out.old)) (pending out.old)
-        (S.written (sink_of out.new)) (pending out.new) (sub_lines sub.now) result }
-    ensures counts { CountsPut (S.faults (sink_of out.old)) (S.faults (sink_of out.new)) result }
+    ensures passes { Buffers out.old out.new (sub_lines sub.now) result }
 {
     match put_sub_line(sub, out) {
         Put::Done => {}
@@ -196,10 +176,7 @@ fn put_sub<S: Sink>(sub: &SubPlaces, out: &mut Pieces<'_, S>) -> Put
 // The lines of the subroutine of a number.
 fn put_sub_at<S: Sink>(places: &Places, number: u32, out: &mut Pieces<'_, S>) -> Put
     ensures same_sink { HaveSameSink out.old out.new }
-    ensures passes { Passes (S.written (sink_of out.old))
-        (pending out.old) (S.written (sink_of out.new)) (pending out.new)
-        (lines_of_sub (sub_at places.now number)) result }
-    ensures counts { CountsPut (S.faults (sink_of out.old)) (S.faults (sink_of out.new)) result }
+    ensures passes { Buffers out.old out.new (lines_of_sub (sub_at places.now number)) result }
 {
     match places.sub(number) {
         Some(sub) => put_sub(sub, out),
@@ -210,10 +187,8 @@ fn put_sub_at<S: Sink>(places: &Places, number: u32, out: &mut Pieces<'_, S>) ->
 // The lines of the linked subroutines.
 fn put_subs<S: Sink>(places: &Places, linked: &[u32], out: &mut Pieces<'_, S>) -> Put
     ensures same_sink { HaveSameSink out.old out.new }
-    ensures passes { Passes (S.written (sink_of out.old))
-        (pending out.old) (S.written (sink_of out.new)) (pending out.new)
+    ensures passes { Buffers out.old out.new
         (flat_map (λ k. lines_of_sub (sub_at places.now k)) linked.now) result }
-    ensures counts { CountsPut (S.faults (sink_of out.old)) (S.faults (sink_of out.new)) result }
 {
     for number in linked {
         match put_sub_at(places, *number, out) {
@@ -227,9 +202,7 @@ fn put_subs<S: Sink>(places: &Places, linked: &[u32], out: &mut Pieces<'_, S>) -
 // The line of a field.
 fn put_field<S: Sink>(class: &Name, k: usize, name: &Name, out: &mut Pieces<'_, S>) -> Put
     ensures same_sink { HaveSameSink out.old out.new }
-    ensures passes { Passes (S.written (sink_of out.old)) (pending out.old)
-        (S.written (sink_of out.new)) (pending out.new) (field_line class.now k name.now) result }
-    ensures counts { CountsPut (S.faults (sink_of out.old)) (S.faults (sink_of out.new)) result }
+    ensures passes { Buffers out.old out.new (field_line class.now k name.now) result }
 {
     let mut index = Buffer::new();
     let index = index.format(k).as_bytes();
@@ -247,9 +220,7 @@ fn put_field<S: Sink>(class: &Name, k: usize, name: &Name, out: &mut Pieces<'_, 
 // The lines of the fields of a class.
 fn put_fields<S: Sink>(class: &Name, names: &[Name], out: &mut Pieces<'_, S>) -> Put
     ensures same_sink { HaveSameSink out.old out.new }
-    ensures passes { Passes (S.written (sink_of out.old)) (pending out.old)
-        (S.written (sink_of out.new)) (pending out.new) (field_lines class.now 0 names.now) result }
-    ensures counts { CountsPut (S.faults (sink_of out.old)) (S.faults (sink_of out.new)) result }
+    ensures passes { Buffers out.old out.new (field_lines class.now 0 names.now) result }
 {
     for (k, name) in names.iter().enumerate() {
         match put_field(class, k, name, out) {
@@ -268,10 +239,7 @@ fn put_word<S: Sink>(
     out: &mut Pieces<'_, S>,
 ) -> Put
     ensures same_sink { HaveSameSink out.old out.new }
-    ensures passes { Passes (S.written (sink_of out.old))
-        (pending out.old) (S.written (sink_of out.new)) (pending out.new)
-        (word_line class.now name.now address) result }
-    ensures counts { CountsPut (S.faults (sink_of out.old)) (S.faults (sink_of out.new)) result }
+    ensures passes { Buffers out.old out.new (word_line class.now name.now address) result }
 {
     match address {
         None => Put::Done,
@@ -294,10 +262,7 @@ fn put_word<S: Sink>(
 // The lines of the statics of a class.
 fn put_statics<S: Sink>(class: &Name, statics: &[PlacedStatic], out: &mut Pieces<'_, S>) -> Put
     ensures same_sink { HaveSameSink out.old out.new }
-    ensures passes { Passes (S.written (sink_of out.old))
-        (pending out.old) (S.written (sink_of out.new)) (pending out.new)
-        (flat_map (static_line class.now) statics.now) result }
-    ensures counts { CountsPut (S.faults (sink_of out.old)) (S.faults (sink_of out.new)) result }
+    ensures passes { Buffers out.old out.new (flat_map (static_line class.now) statics.now) result }
 {
     for variable in statics {
         match put_word(class, &variable.name, variable.address, out) {
@@ -311,9 +276,7 @@ fn put_statics<S: Sink>(class: &Name, statics: &[PlacedStatic], out: &mut Pieces
 // The lines of a class.
 fn put_class<S: Sink>(class: &ClassPlaces, out: &mut Pieces<'_, S>) -> Put
     ensures same_sink { HaveSameSink out.old out.new }
-    ensures passes { Passes (S.written (sink_of out.old)) (pending out.old)
-        (S.written (sink_of out.new)) (pending out.new) (class_lines class.now) result }
-    ensures counts { CountsPut (S.faults (sink_of out.old)) (S.faults (sink_of out.new)) result }
+    ensures passes { Buffers out.old out.new (class_lines class.now) result }
 {
     match put_fields(&class.name, class.fields.as_slice(), out) {
         Put::Done => put_statics(&class.name, class.statics.as_slice(), out),
@@ -324,10 +287,8 @@ fn put_class<S: Sink>(class: &ClassPlaces, out: &mut Pieces<'_, S>) -> Put
 // The lines of the class of a number.
 fn put_class_at<S: Sink>(places: &Places, k: u32, out: &mut Pieces<'_, S>) -> Put
     ensures same_sink { HaveSameSink out.old out.new }
-    ensures passes { Passes (S.written (sink_of out.old))
-        (pending out.old) (S.written (sink_of out.new)) (pending out.new)
+    ensures passes { Buffers out.old out.new
         (lines_of_class (slice_get places.now.classes k)) result }
-    ensures counts { CountsPut (S.faults (sink_of out.old)) (S.faults (sink_of out.new)) result }
 {
     match places.class(k) {
         Some(class) => put_class(class, out),
@@ -338,10 +299,8 @@ fn put_class_at<S: Sink>(places: &Places, k: u32, out: &mut Pieces<'_, S>) -> Pu
 // The lines of these classes.
 fn put_classes<S: Sink>(places: &Places, by_name: &[u32], out: &mut Pieces<'_, S>) -> Put
     ensures same_sink { HaveSameSink out.old out.new }
-    ensures passes { Passes (S.written (sink_of out.old))
-        (pending out.old) (S.written (sink_of out.new)) (pending out.new)
+    ensures passes { Buffers out.old out.new
         (flat_map (λ k. lines_of_class (slice_get places.now.classes k)) by_name.now) result }
-    ensures counts { CountsPut (S.faults (sink_of out.old)) (S.faults (sink_of out.new)) result }
 {
     for k in by_name {
         match put_class_at(places, *k, out) {
@@ -355,9 +314,7 @@ fn put_classes<S: Sink>(places: &Places, by_name: &[u32], out: &mut Pieces<'_, S
 // The lines of the image.
 fn put_image_lines<S: Sink>(places: &Places, out: &mut Pieces<'_, S>) -> Put
     ensures same_sink { HaveSameSink out.old out.new }
-    ensures passes { Passes (S.written (sink_of out.old)) (pending out.old)
-        (S.written (sink_of out.new)) (pending out.new) (image_lines places.now) result }
-    ensures counts { CountsPut (S.faults (sink_of out.old)) (S.faults (sink_of out.new)) result }
+    ensures passes { Buffers out.old out.new (image_lines places.now) result }
 {
     match put_points(places, places.ranges.as_slice(), out) {
         Put::Done => {}
@@ -372,9 +329,7 @@ fn put_image_lines<S: Sink>(places: &Places, out: &mut Pieces<'_, S>) -> Put
 // The lines of the program.
 fn put_program_lines<S: Sink>(places: &Places, out: &mut Pieces<'_, S>) -> Put
     ensures same_sink { HaveSameSink out.old out.new }
-    ensures passes { Passes (S.written (sink_of out.old)) (pending out.old)
-        (S.written (sink_of out.new)) (pending out.new) (program_lines places.now) result }
-    ensures counts { CountsPut (S.faults (sink_of out.old)) (S.faults (sink_of out.new)) result }
+    ensures passes { Buffers out.old out.new (program_lines places.now) result }
 {
     match put_subs(places, places.linked.as_slice(), out) {
         Put::Done => put_classes(places, places.by_name.as_slice(), out),
@@ -385,9 +340,7 @@ fn put_program_lines<S: Sink>(places: &Places, out: &mut Pieces<'_, S>) -> Put
 // All lines.
 fn put_all_lines<S: Sink>(places: &Places, out: &mut Pieces<'_, S>) -> Put
     ensures same_sink { HaveSameSink out.old out.new }
-    ensures passes { Passes (S.written (sink_of out.old)) (pending out.old)
-        (S.written (sink_of out.new)) (pending out.new) (map_text places.now) result }
-    ensures counts { CountsPut (S.faults (sink_of out.old)) (S.faults (sink_of out.new)) result }
+    ensures passes { Buffers out.old out.new (map_text places.now) result }
 {
     match out.put(b"map 2\n") {
         Put::Done => {}
@@ -403,9 +356,8 @@ fn put_all_lines<S: Sink>(places: &Places, out: &mut Pieces<'_, S>) -> Put
 fn put_map<S: Sink>(places: &Places, out: &mut Pieces<'_, S>) -> Put
     requires { pending out.old ≡ [] }
     ensures same_sink { HaveSameSink out.old out.new }
-    ensures put { Puts (S.written (sink_of out.old)) (S.written (sink_of out.new))
+    ensures put { Puts (S.state (sink_of out.old)) (S.state (sink_of out.new))
         (map_text places.now) result }
-    ensures counts { CountsPut (S.faults (sink_of out.old)) (S.faults (sink_of out.new)) result }
 {
     match put_all_lines(places, out) {
         Put::Done => out.finish(),
@@ -416,8 +368,7 @@ fn put_map<S: Sink>(places: &Places, out: &mut Pieces<'_, S>) -> Put
 /// Puts the map of a program in its second form: its points with their places in the source, its commits, and the routines
 /// that commands share. Then come its linked subroutines and their variables, and the fields and statics of their classes.
 pub fn print_map<S: Sink>(places: &Places, out: &mut S) -> Put
-    ensures put { Puts (S.written out.old) (S.written out.new) (map_text places.now) result }
-    ensures counts { CountsPut (S.faults out.old) (S.faults out.new) result }
+    ensures put { Puts (S.state out.old) (S.state out.new) (map_text places.now) result }
 {
     let mut pieces = Pieces::new(out);
     put_map(places, &mut pieces)

@@ -1,8 +1,8 @@
 //! Puts a view.
 ghost use Rattle.std.specs.Prelude.{◌≡◌, ◌++◌, [], codes};
 ghost use Rattle.std.specs.List.{flat_map};
-ghost use Rattle.outer_world.specs.Held.{HaveSameSink, pending, sink_of};
-ghost use Rattle.outer_world.specs.Written.{CountsPut, Passes, Puts};
+ghost use Rattle.outer_world.specs.Held.{Buffers, HaveSameSink, pending, sink_of};
+ghost use Rattle.outer_world.specs.Written.{Puts};
 ghost use Rattle.jack_debug.specs.Text.{caller_line, lost_line, variable_line, this_line, this_lines, variables_text, callers_text, view_text};
 
 use crate::seen::{Caller, Variable, View};
@@ -12,9 +12,7 @@ use outer_world::{Pieces, Put, Sink};
 // The line of `this`.
 fn put_this<S: Sink>(word: u16, out: &mut Pieces<'_, S>) -> Put
     ensures same_sink { HaveSameSink out.old out.new }
-    ensures passes { Passes (S.written (sink_of out.old)) (pending out.old)
-        (S.written (sink_of out.new)) (pending out.new) (this_line word) result }
-    ensures counts { CountsPut (S.faults (sink_of out.old)) (S.faults (sink_of out.new)) result }
+    ensures passes { Buffers out.old out.new (this_line word) result }
 {
     let mut digits = Buffer::new();
     if word < 0x8000 {
@@ -28,9 +26,7 @@ fn put_this<S: Sink>(word: u16, out: &mut Pieces<'_, S>) -> Put
 // The same where there is one.
 fn put_this_lines<S: Sink>(this: Option<u16>, out: &mut Pieces<'_, S>) -> Put
     ensures same_sink { HaveSameSink out.old out.new }
-    ensures passes { Passes (S.written (sink_of out.old)) (pending out.old)
-        (S.written (sink_of out.new)) (pending out.new) (this_lines this) result }
-    ensures counts { CountsPut (S.faults (sink_of out.old)) (S.faults (sink_of out.new)) result }
+    ensures passes { Buffers out.old out.new (this_lines this) result }
 {
     match this {
         Some(word) => put_this(word, out),
@@ -41,10 +37,7 @@ fn put_this_lines<S: Sink>(this: Option<u16>, out: &mut Pieces<'_, S>) -> Put
 // The line of a variable.
 fn put_variable<S: Sink>(what: &[u8], variable: &Variable, out: &mut Pieces<'_, S>) -> Put
     ensures same_sink { HaveSameSink out.old out.new }
-    ensures passes { Passes (S.written (sink_of out.old))
-        (pending out.old) (S.written (sink_of out.new)) (pending out.new)
-        (variable_line what.now variable.now) result }
-    ensures counts { CountsPut (S.faults (sink_of out.old)) (S.faults (sink_of out.new)) result }
+    ensures passes { Buffers out.old out.new (variable_line what.now variable.now) result }
 {
     let mut digits = Buffer::new();
     let name = variable.name.as_bytes();
@@ -60,10 +53,8 @@ fn put_variable<S: Sink>(what: &[u8], variable: &Variable, out: &mut Pieces<'_, 
 // The lines of variables.
 fn put_variables<S: Sink>(what: &[u8], variables: &[Variable], out: &mut Pieces<'_, S>) -> Put
     ensures same_sink { HaveSameSink out.old out.new }
-    ensures passes { Passes (S.written (sink_of out.old))
-        (pending out.old) (S.written (sink_of out.new)) (pending out.new)
+    ensures passes { Buffers out.old out.new
         (flat_map (variable_line what.now) variables.now) result }
-    ensures counts { CountsPut (S.faults (sink_of out.old)) (S.faults (sink_of out.new)) result }
 {
     for variable in variables {
         match put_variable(what, variable, out) {
@@ -77,9 +68,7 @@ fn put_variables<S: Sink>(what: &[u8], variables: &[Variable], out: &mut Pieces<
 // The line of a caller.
 fn put_caller<S: Sink>(caller: &Caller, out: &mut Pieces<'_, S>) -> Put
     ensures same_sink { HaveSameSink out.old out.new }
-    ensures passes { Passes (S.written (sink_of out.old)) (pending out.old)
-        (S.written (sink_of out.new)) (pending out.new) (caller_line caller.now) result }
-    ensures counts { CountsPut (S.faults (sink_of out.old)) (S.faults (sink_of out.new)) result }
+    ensures passes { Buffers out.old out.new (caller_line caller.now) result }
 {
     let mut digits = Buffer::new();
     out.put_all(&[
@@ -94,9 +83,7 @@ fn put_caller<S: Sink>(caller: &Caller, out: &mut Pieces<'_, S>) -> Put
 // The lines of callers.
 fn put_callers<S: Sink>(callers: &[Caller], out: &mut Pieces<'_, S>) -> Put
     ensures same_sink { HaveSameSink out.old out.new }
-    ensures passes { Passes (S.written (sink_of out.old)) (pending out.old)
-        (S.written (sink_of out.new)) (pending out.new) (flat_map caller_line callers.now) result }
-    ensures counts { CountsPut (S.faults (sink_of out.old)) (S.faults (sink_of out.new)) result }
+    ensures passes { Buffers out.old out.new (flat_map caller_line callers.now) result }
 {
     for caller in callers {
         match put_caller(caller, out) {
@@ -110,9 +97,7 @@ fn put_callers<S: Sink>(callers: &[Caller], out: &mut Pieces<'_, S>) -> Put
 // The last line, where the stack did not lead down to `start`.
 fn put_lost<S: Sink>(lost: bool, out: &mut Pieces<'_, S>) -> Put
     ensures same_sink { HaveSameSink out.old out.new }
-    ensures passes { Passes (S.written (sink_of out.old)) (pending out.old)
-        (S.written (sink_of out.new)) (pending out.new) (lost_line lost) result }
-    ensures counts { CountsPut (S.faults (sink_of out.old)) (S.faults (sink_of out.new)) result }
+    ensures passes { Buffers out.old out.new (lost_line lost) result }
 {
     if lost {
         out.put(b"from ?\n")
@@ -124,9 +109,7 @@ fn put_lost<S: Sink>(lost: bool, out: &mut Pieces<'_, S>) -> Put
 // `this` and the variables.
 fn put_named<S: Sink>(view: &View, out: &mut Pieces<'_, S>) -> Put
     ensures same_sink { HaveSameSink out.old out.new }
-    ensures passes { Passes (S.written (sink_of out.old)) (pending out.old)
-        (S.written (sink_of out.new)) (pending out.new) (variables_text view.now) result }
-    ensures counts { CountsPut (S.faults (sink_of out.old)) (S.faults (sink_of out.new)) result }
+    ensures passes { Buffers out.old out.new (variables_text view.now) result }
 {
     match put_this_lines(view.this, out) {
         Put::Done => {}
@@ -145,9 +128,7 @@ fn put_named<S: Sink>(view: &View, out: &mut Pieces<'_, S>) -> Put
 // The callers and the last line.
 fn put_called<S: Sink>(view: &View, out: &mut Pieces<'_, S>) -> Put
     ensures same_sink { HaveSameSink out.old out.new }
-    ensures passes { Passes (S.written (sink_of out.old)) (pending out.old)
-        (S.written (sink_of out.new)) (pending out.new) (callers_text view.now) result }
-    ensures counts { CountsPut (S.faults (sink_of out.old)) (S.faults (sink_of out.new)) result }
+    ensures passes { Buffers out.old out.new (callers_text view.now) result }
 {
     match put_callers(view.callers.as_slice(), out) {
         Put::Done => put_lost(view.lost, out),
@@ -158,9 +139,7 @@ fn put_called<S: Sink>(view: &View, out: &mut Pieces<'_, S>) -> Put
 // All lines.
 fn put_lines<S: Sink>(view: &View, out: &mut Pieces<'_, S>) -> Put
     ensures same_sink { HaveSameSink out.old out.new }
-    ensures passes { Passes (S.written (sink_of out.old)) (pending out.old)
-        (S.written (sink_of out.new)) (pending out.new) (view_text view.now) result }
-    ensures counts { CountsPut (S.faults (sink_of out.old)) (S.faults (sink_of out.new)) result }
+    ensures passes { Buffers out.old out.new (view_text view.now) result }
 {
     match put_named(view, out) {
         Put::Done => put_called(view, out),
@@ -172,9 +151,8 @@ fn put_lines<S: Sink>(view: &View, out: &mut Pieces<'_, S>) -> Put
 fn put_view<S: Sink>(view: &View, out: &mut Pieces<'_, S>) -> Put
     requires { pending out.old ≡ [] }
     ensures same_sink { HaveSameSink out.old out.new }
-    ensures put { Puts (S.written (sink_of out.old)) (S.written (sink_of out.new))
+    ensures put { Puts (S.state (sink_of out.old)) (S.state (sink_of out.new))
         (view_text view.now) result }
-    ensures counts { CountsPut (S.faults (sink_of out.old)) (S.faults (sink_of out.new)) result }
 {
     match put_lines(view, out) {
         Put::Done => out.finish(),
@@ -184,8 +162,7 @@ fn put_view<S: Sink>(view: &View, out: &mut Pieces<'_, S>) -> Put
 
 /// Puts a view: a line for `this`, for each variable and for each caller.
 pub fn print_view<S: Sink>(view: &View, out: &mut S) -> Put
-    ensures put { Puts (S.written out.old) (S.written out.new) (view_text view.now) result }
-    ensures counts { CountsPut (S.faults out.old) (S.faults out.new) result }
+    ensures put { Puts (S.state out.old) (S.state out.new) (view_text view.now) result }
 {
     let mut pieces = Pieces::new(out);
     put_view(view, &mut pieces)

@@ -14,9 +14,8 @@ use Rattle.scan_text.specs.Text.{front, is_digit, digits, decimal, capped_count}
 use Rattle.scan_text.specs.Blanks.{blank, starts}
 use Rattle.grammar.specs.declared.Fault.TheVariants.{Grammar, Range}
 use Rattle.grammar.specs.Cutting.{Piece, Token, Wrong, past_blank}
-use Rattle.grammar.proofs.Runs.{run_text}
 use Rattle.grammar.proofs.Spaced as spaced
-use Rattle.grammar.proofs.Spaced.{All, all_every, front_all, differs, no_blank, no_comment, gap, gap_fails, drop_none, drop_length, front_taken, less_one, Digits, digits_of, plain, plain_is, plain_digits, letter_names, named_front, Each, GoodPiece, good_if}
+use Rattle.grammar.proofs.Spaced.{All, all_every, front_all, differs, no_blank, no_comment, gap, gap_fails, drop_none, drop_length, front_taken, less_one, Digits, digits_of, plain, plain_is, plain_digits, named_front, word_taken, Each, GoodPiece, good_if}
 use Rattle.jack_tree.specs.declared.token.Keyword.{Keyword}
 use Rattle.jack_tree.specs.declared.token.Keyword.TheVariants as keyword
 use Rattle.jack_tree.specs.declared.token.Kind.{Kind}
@@ -183,8 +182,7 @@ good_kind text n (Some w) k = tt
 good_word : (b : ℕ) (bs : List ℕ) → is_letter b ≡ true → GoodPiece GoodWord (word_piece (b ∷ bs))
 good_word b bs l at =
     let text = front is_name_byte (b ∷ bs) in
-    subst (λ (x : List ℕ). Good (word_kind text) x) (sym (run_text is_name_byte (b ∷ bs) b refl (letter_names b l)))
-    (good_kind text (named_front word_kind b bs l) (keyword_of text) refl)
+    word_taken (Good (word_kind text)) b bs l (good_kind text (named_front word_kind b bs l) (keyword_of text) refl)
 
 good_string : (b : ℕ) (bs : List ℕ) → GoodPiece GoodWord (text_piece (b ∷ bs))
 good_string b bs =

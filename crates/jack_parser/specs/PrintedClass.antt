@@ -71,4 +71,5 @@ pub record PrintedClassLaw : Type 0 where
   pub form : (c : code.Class) → class_text c ≡ printed_class (the_class c)
   -- The printed form of each class that keeps the limits has the tokens of the class and spells a tree. Its tokens have to be such as
   -- can stand in a text that is no longer than a file may be.
-  pub again : (c : Class) → KeepsLimits c → CanAllSay (class_tokens c) → length (printed_class c) ≤ 1048576 → HasTokens (printed_class c) c
+  pub again : (c : Class) → KeepsLimits c → CanAllSay (class_tokens c)
+      → length (printed_class c) ≤ 1048576 → HasTokens (printed_class c) c

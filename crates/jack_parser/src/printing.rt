@@ -4,7 +4,7 @@ ghost use Rattle.std.specs.Prelude.{◌≡◌, ◌++◌, ◌∷◌, []};
 ghost use Rattle.grammar.specs.Printed.{Writes, set_off};
 ghost use Rattle.grammar.specs.Rules.{name, NoMore, option, repeat, tree_of_list};
 ghost use Rattle.outer_world.specs.Held.{HaveSameSink, pending, sink_of};
-ghost use Rattle.outer_world.specs.Written.{CountsPut, Puts};
+ghost use Rattle.outer_world.specs.Written.{Puts};
 ghost use Rattle.jack_tree.specs.Tokens.{keyword_text};
 ghost use Rattle.jack_parser.specs.declared.counts.Counted.{Counted};
 ghost use Rattle.jack_parser.specs.Grammar.{arguments, class_rule, class_variables, declaration, expression, group, invocation_rule, locals_rule, names_rule, next_name, next_parameter, operation, parameter, parameters, statement, subroutine, subscript, term};
@@ -476,9 +476,8 @@ fn put_class<S: Sink>(class: &Class, status: Put, out: &mut Pieces<'_, S>) -> Pu
 fn put_all<S: Sink>(class: &Class, out: &mut Pieces<'_, S>) -> Put
     requires { pending out.old ≡ [] }
     ensures same_sink { HaveSameSink out.old out.new }
-    ensures put { Puts (S.written (sink_of out.old)) (S.written (sink_of out.new))
+    ensures put { Puts (S.state (sink_of out.old)) (S.state (sink_of out.new))
         (class_text class.now) result }
-    ensures counts { CountsPut (S.faults (sink_of out.old)) (S.faults (sink_of out.new)) result }
 {
     let status = put_class(class, Put::Done, out);
     put_rest(status, out)
@@ -486,8 +485,7 @@ fn put_all<S: Sink>(class: &Class, out: &mut Pieces<'_, S>) -> Put
 
 /// Prints a class: its tokens with one space between them, and a line feed in its place after `{`, `}` and `;`. It takes no memory.
 pub fn print<S: Sink>(class: &Class, out: &mut S) -> Put
-    ensures put { Puts (S.written out.old) (S.written out.new) (class_text class.now) result }
-    ensures counts { CountsPut (S.faults out.old) (S.faults out.new) result }
+    ensures put { Puts (S.state out.old) (S.state out.new) (class_text class.now) result }
 {
     let mut pieces = Pieces::new(out);
     put_all(class, &mut pieces)

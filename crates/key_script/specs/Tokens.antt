@@ -7,7 +7,7 @@ use Rattle.grammar.specs.Cutting.{Piece, Passed, Token, cut_text}
 use Rattle.grammar.specs.Lines.{line_end_piece}
 use Rattle.grammar.specs.Lines as lines
 use Rattle.grammar.specs.declared.lines.Placed.{Placed}
-use Rattle.grammar.specs.Placed.{placed}
+use Rattle.grammar.specs.Placed.{token_at}
 use Rattle.key_script.specs.declared.token.Kind.{Kind}
 use Rattle.key_script.specs.declared.token.Kind.TheVariants.{Number, LineEnd}
 
@@ -17,11 +17,11 @@ Word = Placed Kind
 
 -- decimal digits
 abbrev pub number_piece : List ℕ → Piece Word
-number_piece bs = Token (placed (Number (capped_count (decimal 0 (digits bs))))) (length (digits bs) - 1)
+number_piece bs = Token (token_at (Number (capped_count (decimal 0 (digits bs))))) (length (digits bs) - 1)
 
 -- the line end at a place
 abbrev pub line_end_token : Place → Word
-line_end_token = placed LineEnd
+line_end_token = token_at LineEnd
 
 -- what begins at the first byte: blanks and tabs are passed over
 abbrev pub piece_at : Option ℕ → List ℕ → Piece Word

@@ -19,7 +19,8 @@ holds_at test reading way k = test (steps_before reading way k) (reading (way k)
 -- The machines that m moves lead through, each under its key: the first of them, and after each number of moves the one that stands there.
 pub record IsWay {M P : Type 0} (stands : M → List Turn → Type 0) (reading : M → Reading P) (code : ℕ → ℕ) (old : M) (m : ℕ) (way : ℕ → M) : Type 0 where
   pub first : way 0 ≡ old
-  pub leads : (k : ℕ) → k ≤ m → Goes code (stands old) (reading old).moves k [] (stands (way k)) (reading (way k)).moves
+  pub leads : (k : ℕ) → k ≤ m
+      → Goes code (stands old) (reading old).moves k [] (stands (way k)) (reading (way k)).moves
 
 -- The test holds after m moves, at most n, and after no number of moves before.
 pub record IsFound {M P : Type 0} (test : ℕ → Reading P → Bool) (stands : M → List Turn → Type 0) (reading : M → Reading P) (code : ℕ → ℕ) (old : M) (n : ℕ) (new : M) : Type 0 where

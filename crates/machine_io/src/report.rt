@@ -1,8 +1,8 @@
 //! The report of a run.
 ghost use Rattle.std.specs.Prelude.{◌≡◌, ◌+◌, ◌-◌, ◌<◌, ◌≤◌, ◌++◌, ◌∷◌, [], ℕ, decimal, codes};
 ghost use Rattle.word16.specs.Memory.{heap, keyboard};
-ghost use Rattle.outer_world.specs.Held.{HaveSameSink, pending, sink_of};
-ghost use Rattle.outer_world.specs.Written.{CountsPut, Passes, Puts};
+ghost use Rattle.outer_world.specs.Held.{Buffers, HaveSameSink, pending, sink_of};
+ghost use Rattle.outer_world.specs.Written.{CountsPut, Puts};
 ghost use Rattle.machine_io.specs.Words.{IsCallable, Gives};
 ghost use Rattle.machine_io.specs.Report.{level_name, end_text, said_line, counts_text, head_text, shown_text, report_text};
 
@@ -60,18 +60,14 @@ impl LevelName {
 // A line of a word, a space and what is said of it.
 fn put_said<S: Sink>(word: &[u8], text: &[u8], out: &mut Pieces<'_, S>) -> Put
     ensures same_sink { HaveSameSink out.old out.new }
-    ensures passes { Passes (S.written (sink_of out.old)) (pending out.old)
-        (S.written (sink_of out.new)) (pending out.new) (said_line word.now text.now) result }
-    ensures counts { CountsPut (S.faults (sink_of out.old)) (S.faults (sink_of out.new)) result }
+    ensures passes { Buffers out.old out.new (said_line word.now text.now) result }
 {
     out.put_all(&[word, b" ", text, b"\n"])
 }
 
 fn put_number<S: Sink>(word: &[u8], n: u64, out: &mut Pieces<'_, S>) -> Put
     ensures same_sink { HaveSameSink out.old out.new }
-    ensures passes { Passes (S.written (sink_of out.old)) (pending out.old)
-        (S.written (sink_of out.new)) (pending out.new) (said_line word.now (decimal n)) result }
-    ensures counts { CountsPut (S.faults (sink_of out.old)) (S.faults (sink_of out.new)) result }
+    ensures passes { Buffers out.old out.new (said_line word.now (decimal n)) result }
 {
     let mut buffer = Buffer::new();
     put_said(word, buffer.format(n).as_bytes(), out)
@@ -79,10 +75,7 @@ fn put_number<S: Sink>(word: &[u8], n: u64, out: &mut Pieces<'_, S>) -> Put
 
 fn put_level<S: Sink>(level: LevelName, out: &mut Pieces<'_, S>) -> Put
     ensures same_sink { HaveSameSink out.old out.new }
-    ensures passes { Passes (S.written (sink_of out.old))
-        (pending out.old) (S.written (sink_of out.new)) (pending out.new)
-        (said_line (codes "level") (level_name level)) result }
-    ensures counts { CountsPut (S.faults (sink_of out.old)) (S.faults (sink_of out.new)) result }
+    ensures passes { Buffers out.old out.new (said_line (codes "level") (level_name level)) result }
 {
     put_said(b"level", level.name().as_bytes(), out)
 }
@@ -90,9 +83,7 @@ fn put_level<S: Sink>(level: LevelName, out: &mut Pieces<'_, S>) -> Put
 // The lines of the level and the counts.
 fn put_counts<S: Sink>(level: LevelName, moves: u64, steps: u64, out: &mut Pieces<'_, S>) -> Put
     ensures same_sink { HaveSameSink out.old out.new }
-    ensures passes { Passes (S.written (sink_of out.old)) (pending out.old)
-        (S.written (sink_of out.new)) (pending out.new) (counts_text level moves steps) result }
-    ensures counts { CountsPut (S.faults (sink_of out.old)) (S.faults (sink_of out.new)) result }
+    ensures passes { Buffers out.old out.new (counts_text level moves steps) result }
 {
     match put_level(level, out) {
         Put::Done => {}
@@ -108,10 +99,8 @@ fn put_counts<S: Sink>(level: LevelName, moves: u64, steps: u64, out: &mut Piece
 // The line of the control point.
 fn put_point<S: Sink>(subroutine: &str, statement: u32, out: &mut Pieces<'_, S>) -> Put
     ensures same_sink { HaveSameSink out.old out.new }
-    ensures passes { Passes (S.written (sink_of out.old))
-        (pending out.old) (S.written (sink_of out.new)) (pending out.new)
+    ensures passes { Buffers out.old out.new
         (said_line (codes "point") (subroutine.now ++ 32 ∷ decimal statement)) result }
-    ensures counts { CountsPut (S.faults (sink_of out.old)) (S.faults (sink_of out.new)) result }
 {
     let mut buffer = Buffer::new();
     let statement = buffer.format(statement).as_bytes();
@@ -121,10 +110,7 @@ fn put_point<S: Sink>(subroutine: &str, statement: u32, out: &mut Pieces<'_, S>)
 // The line of the end.
 fn put_end<S: Sink>(end: End, out: &mut Pieces<'_, S>) -> Put
     ensures same_sink { HaveSameSink out.old out.new }
-    ensures passes { Passes (S.written (sink_of out.old))
-        (pending out.old) (S.written (sink_of out.new)) (pending out.new)
-        (said_line (codes "end") (end_text end)) result }
-    ensures counts { CountsPut (S.faults (sink_of out.old)) (S.faults (sink_of out.new)) result }
+    ensures passes { Buffers out.old out.new (said_line (codes "end") (end_text end)) result }
 {
     match end {
         End::Bound => put_said(b"end", b"bound", out),
@@ -141,10 +127,8 @@ fn put_end<S: Sink>(end: End, out: &mut Pieces<'_, S>) -> Put
 /// Puts the five lines that each report begins with.
 pub fn put_head<S: Sink>(head: &Head<'_>, out: &mut Pieces<'_, S>) -> Put
     ensures same_sink { HaveSameSink out.old out.new }
-    ensures passes { Passes (S.written (sink_of out.old)) (pending out.old)
-        (S.written (sink_of out.new)) (pending out.new) (head_text head.now.level head.now.moves
-        head.now.steps head.now.subroutine.now head.now.statement head.now.end) result }
-    ensures counts { CountsPut (S.faults (sink_of out.old)) (S.faults (sink_of out.new)) result }
+    ensures passes { Buffers out.old out.new (head_text head.now.level head.now.moves head.now.steps
+        head.now.subroutine.now head.now.statement head.now.end) result }
 {
     match put_counts(head.level, head.moves, head.steps, out) {
         Put::Done => {}
@@ -162,9 +146,9 @@ pub fn put_shown<W: Fn(u16) -> u16, S: Sink>(show: Show, word: &W, out: &mut Pie
     requires { IsCallable (W.pre word.now) heap (keyboard - 1) }
     ensures same_sink { HaveSameSink out.old out.new }
     ensures passes { (words : ℕ → ℕ) → Gives (W.post word.now) heap (keyboard - 1) words
-        → Passes (S.written (sink_of out.old)) (pending out.old) (S.written (sink_of out.new))
-        (pending out.new) (shown_text show words) result }
-    ensures counts { CountsPut (S.faults (sink_of out.old)) (S.faults (sink_of out.new)) result }
+        → Buffers out.old out.new (shown_text show words) result }
+    ensures counts { CountsPut (S.state (sink_of out.old)).faults
+        (S.state (sink_of out.new)).faults result }
 {
     match show {
         Show::Nothing => Put::Done,
@@ -183,10 +167,10 @@ fn put_report<W: Fn(u16) -> u16, S: Sink>(
     requires { IsCallable (W.pre word.now) heap (keyboard - 1) }
     ensures same_sink { HaveSameSink out.old out.new }
     ensures passes { (words : ℕ → ℕ) → Gives (W.post word.now) heap (keyboard - 1) words
-        → Passes (S.written (sink_of out.old)) (pending out.old) (S.written (sink_of out.new))
-        (pending out.new) (report_text head.now.level head.now.moves head.now.steps
+        → Buffers out.old out.new (report_text head.now.level head.now.moves head.now.steps
         head.now.subroutine.now head.now.statement head.now.end show words) result }
-    ensures counts { CountsPut (S.faults (sink_of out.old)) (S.faults (sink_of out.new)) result }
+    ensures counts { CountsPut (S.state (sink_of out.old)).faults
+        (S.state (sink_of out.new)).faults result }
 {
     match put_head(head, out) {
         Put::Done => put_shown(show, word, out),
@@ -205,10 +189,11 @@ fn put_all<W: Fn(u16) -> u16, S: Sink>(
     requires empty { pending out.old ≡ [] }
     ensures same_sink { HaveSameSink out.old out.new }
     ensures put { (words : ℕ → ℕ) → Gives (W.post word.now) heap (keyboard - 1) words
-        → Puts (S.written (sink_of out.old)) (S.written (sink_of out.new))
+        → Puts (S.state (sink_of out.old)) (S.state (sink_of out.new))
         (report_text head.now.level head.now.moves head.now.steps head.now.subroutine.now
         head.now.statement head.now.end show words) result }
-    ensures counts { CountsPut (S.faults (sink_of out.old)) (S.faults (sink_of out.new)) result }
+    ensures counts { CountsPut (S.state (sink_of out.old)).faults
+        (S.state (sink_of out.new)).faults result }
 {
     match put_report(head, show, word, out) {
         Put::Done => out.finish(),
@@ -225,9 +210,9 @@ pub fn show_report<W: Fn(u16) -> u16, S: Sink>(
 ) -> Put
     requires { IsCallable (W.pre word) heap (keyboard - 1) }
     ensures put { (words : ℕ → ℕ) → Gives (W.post word) heap (keyboard - 1) words
-        → Puts (S.written out.old) (S.written out.new) (report_text head.now.level head.now.moves
+        → Puts (S.state out.old) (S.state out.new) (report_text head.now.level head.now.moves
         head.now.steps head.now.subroutine.now head.now.statement head.now.end show words) result }
-    ensures counts { CountsPut (S.faults out.old) (S.faults out.new) result }
+    ensures counts { CountsPut (S.state out.old).faults (S.state out.new).faults result }
 {
     let mut pieces = Pieces::new(out);
     put_all(head, show, &word, &mut pieces)

@@ -1,8 +1,8 @@
 //! The screen, as lines of characters.
 ghost use Rattle.std.specs.Prelude.{◌≡◌, ◌+◌, ◌-◌, ◌*◌, ◌<◌, ◌≤◌, ◌++◌, ◌∷◌, [], ℕ};
 ghost use Rattle.word16.specs.Memory.{keyboard, screen};
-ghost use Rattle.outer_world.specs.Held.{HaveSameSink, pending, sink_of};
-ghost use Rattle.outer_world.specs.Written.{CountsPut, Passes, Puts};
+ghost use Rattle.outer_world.specs.Held.{Buffers, HaveSameSink, pending, sink_of};
+ghost use Rattle.outer_world.specs.Written.{CountsPut, Puts};
 ghost use Rattle.machine_io.specs.Words.{IsCallable, Gives};
 ghost use Rattle.machine_io.specs.Screen.{shade, pixels_of, row_text, screen_text};
 
@@ -37,9 +37,9 @@ fn put_row<W: Fn(u16) -> u16, S: Sink>(word: &W, row: u16, out: &mut Pieces<'_, 
     requires row { row < 256 }
     ensures same_sink { HaveSameSink out.old out.new }
     ensures passes { (words : ℕ → ℕ) → Gives (W.post word.now) screen (keyboard - 1) words
-        → Passes (S.written (sink_of out.old)) (pending out.old) (S.written (sink_of out.new))
-        (pending out.new) (row_text words row) result }
-    ensures counts { CountsPut (S.faults (sink_of out.old)) (S.faults (sink_of out.new)) result }
+        → Buffers out.old out.new (row_text words row) result }
+    ensures counts { CountsPut (S.state (sink_of out.old)).faults
+        (S.state (sink_of out.new)).faults result }
 {
     let start = SCREEN + WORDS_OF_ROW * row;
     for k in 0..WORDS_OF_ROW {
@@ -56,9 +56,9 @@ pub fn put_screen<W: Fn(u16) -> u16, S: Sink>(word: &W, out: &mut Pieces<'_, S>)
     requires { IsCallable (W.pre word.now) screen (keyboard - 1) }
     ensures same_sink { HaveSameSink out.old out.new }
     ensures passes { (words : ℕ → ℕ) → Gives (W.post word.now) screen (keyboard - 1) words
-        → Passes (S.written (sink_of out.old)) (pending out.old) (S.written (sink_of out.new))
-        (pending out.new) (screen_text words) result }
-    ensures counts { CountsPut (S.faults (sink_of out.old)) (S.faults (sink_of out.new)) result }
+        → Buffers out.old out.new (screen_text words) result }
+    ensures counts { CountsPut (S.state (sink_of out.old)).faults
+        (S.state (sink_of out.new)).faults result }
 {
     for row in 0..ROWS {
         match put_row(word, row, out) {
@@ -74,9 +74,10 @@ fn put_all_screen<W: Fn(u16) -> u16, S: Sink>(word: &W, out: &mut Pieces<'_, S>)
     requires callable { IsCallable (W.pre word.now) screen (keyboard - 1) }
     requires empty { pending out.old ≡ [] }
     ensures same_sink { HaveSameSink out.old out.new }
-    ensures put { (words : ℕ → ℕ) → Gives (W.post word.now) screen (keyboard - 1) words → Puts
-        (S.written (sink_of out.old)) (S.written (sink_of out.new)) (screen_text words) result }
-    ensures counts { CountsPut (S.faults (sink_of out.old)) (S.faults (sink_of out.new)) result }
+    ensures put { (words : ℕ → ℕ) → Gives (W.post word.now) screen (keyboard - 1) words
+        → Puts (S.state (sink_of out.old)) (S.state (sink_of out.new)) (screen_text words) result }
+    ensures counts { CountsPut (S.state (sink_of out.old)).faults
+        (S.state (sink_of out.new)).faults result }
 {
     match put_screen(word, out) {
         Put::Done => out.finish(),
@@ -88,8 +89,8 @@ fn put_all_screen<W: Fn(u16) -> u16, S: Sink>(word: &W, out: &mut Pieces<'_, S>)
 pub fn show_screen<W: Fn(u16) -> u16, S: Sink>(word: W, out: &mut S) -> Put
     requires { IsCallable (W.pre word) screen (keyboard - 1) }
     ensures put { (words : ℕ → ℕ) → Gives (W.post word) screen (keyboard - 1) words
-        → Puts (S.written out.old) (S.written out.new) (screen_text words) result }
-    ensures counts { CountsPut (S.faults out.old) (S.faults out.new) result }
+        → Puts (S.state out.old) (S.state out.new) (screen_text words) result }
+    ensures counts { CountsPut (S.state out.old).faults (S.state out.new).faults result }
 {
     let mut pieces = Pieces::new(out);
     put_all_screen(&word, &mut pieces)

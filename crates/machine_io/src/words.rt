@@ -1,8 +1,8 @@
 //! The lines of words and their addresses.
 ghost use Rattle.std.specs.Prelude.{◌≡◌, ◌+◌, ◌-◌, ◌<◌, ◌≤◌, ◌++◌, ◌∷◌, [], ℕ, Bool};
-ghost use Rattle.outer_world.specs.Held.{HaveSameSink, pending, sink_of};
+ghost use Rattle.outer_world.specs.Held.{Buffers, HaveSameSink, pending, sink_of};
 ghost use Rattle.outer_world.specs.Texts.{word_line};
-ghost use Rattle.outer_world.specs.Written.{CountsPut, Passes, Puts};
+ghost use Rattle.outer_world.specs.Written.{CountsPut, Puts};
 ghost use Rattle.machine_io.specs.Words.{IsCallable, Gives, shown_line, words_text};
 
 use itoa::Buffer;
@@ -11,9 +11,7 @@ use outer_world::{Pieces, Put, Sink};
 // The line `address word` with the word's signed reading.
 fn put_line<S: Sink>(address: u16, word: u16, out: &mut Pieces<'_, S>) -> Put
     ensures same_sink { HaveSameSink out.old out.new }
-    ensures passes { Passes (S.written (sink_of out.old)) (pending out.old)
-        (S.written (sink_of out.new)) (pending out.new) (word_line address word) result }
-    ensures counts { CountsPut (S.faults (sink_of out.old)) (S.faults (sink_of out.new)) result }
+    ensures passes { Buffers out.old out.new (word_line address word) result }
 {
     let mut first = Buffer::new();
     let mut second = Buffer::new();
@@ -29,9 +27,7 @@ fn put_line<S: Sink>(address: u16, word: u16, out: &mut Pieces<'_, S>) -> Put
 // The same, but nothing for a word 0 where zeros are left out.
 fn put_shown_line<S: Sink>(address: u16, word: u16, zeros: bool, out: &mut Pieces<'_, S>) -> Put
     ensures same_sink { HaveSameSink out.old out.new }
-    ensures passes { Passes (S.written (sink_of out.old)) (pending out.old)
-        (S.written (sink_of out.new)) (pending out.new) (shown_line zeros address word) result }
-    ensures counts { CountsPut (S.faults (sink_of out.old)) (S.faults (sink_of out.new)) result }
+    ensures passes { Buffers out.old out.new (shown_line zeros address word) result }
 {
     if zeros || word != 0 {
         put_line(address, word, out)
@@ -52,9 +48,9 @@ pub fn put_words<W: Fn(u16) -> u16, S: Sink>(
     requires { IsCallable (W.pre word.now) from to }
     ensures same_sink { HaveSameSink out.old out.new }
     ensures passes { (words : ℕ → ℕ) → Gives (W.post word.now) from to words
-        → Passes (S.written (sink_of out.old)) (pending out.old) (S.written (sink_of out.new))
-        (pending out.new) (words_text words zeros from to) result }
-    ensures counts { CountsPut (S.faults (sink_of out.old)) (S.faults (sink_of out.new)) result }
+        → Buffers out.old out.new (words_text words zeros from to) result }
+    ensures counts { CountsPut (S.state (sink_of out.old)).faults
+        (S.state (sink_of out.new)).faults result }
 {
     let end = to as u32 + 1;
     for address in from as u32..end {
@@ -79,9 +75,10 @@ fn put_all_words<W: Fn(u16) -> u16, S: Sink>(
     requires empty { pending out.old ≡ [] }
     ensures same_sink { HaveSameSink out.old out.new }
     ensures put { (words : ℕ → ℕ) → Gives (W.post word.now) from to words
-        → Puts (S.written (sink_of out.old)) (S.written (sink_of out.new))
+        → Puts (S.state (sink_of out.old)) (S.state (sink_of out.new))
         (words_text words zeros from to) result }
-    ensures counts { CountsPut (S.faults (sink_of out.old)) (S.faults (sink_of out.new)) result }
+    ensures counts { CountsPut (S.state (sink_of out.old)).faults
+        (S.state (sink_of out.new)).faults result }
 {
     match put_words(word, from, to, zeros, out) {
         Put::Done => out.finish(),
@@ -100,8 +97,8 @@ pub fn show_words<W: Fn(u16) -> u16, S: Sink>(
 ) -> Put
     requires { IsCallable (W.pre word) from to }
     ensures put { (words : ℕ → ℕ) → Gives (W.post word) from to words
-        → Puts (S.written out.old) (S.written out.new) (words_text words zeros from to) result }
-    ensures counts { CountsPut (S.faults out.old) (S.faults out.new) result }
+        → Puts (S.state out.old) (S.state out.new) (words_text words zeros from to) result }
+    ensures counts { CountsPut (S.state out.old).faults (S.state out.new).faults result }
 {
     let mut pieces = Pieces::new(out);
     put_all_words(&word, from, to, zeros, &mut pieces)

@@ -1,7 +1,7 @@
 //! The printed form of programs.
 ghost use Rattle.std.specs.Prelude.{◌≡◌, ◌++◌, ◌∷◌, []};
-ghost use Rattle.outer_world.specs.Held.{HaveSameSink, pending, sink_of};
-ghost use Rattle.outer_world.specs.Written.{CountsPut, Passes, Puts};
+ghost use Rattle.outer_world.specs.Held.{Buffers, HaveSameSink, pending, sink_of};
+ghost use Rattle.outer_world.specs.Written.{Puts};
 ghost use Rattle.vm_tree.specs.Printed.{command_text, file_line, file_text, files_text, function_text, functions_text, lines_text, named_text, operation_text, program_text, segment_text, with_number};
 
 use crate::{Command, File, Function, Line, Operation, Program, Segment};
@@ -44,10 +44,7 @@ fn segment_text(segment: Segment) -> &'static str
 // Two words and a number, with the end of the line.
 fn put_with_number<S: Sink>(first: &[u8], second: &str, number: u16, out: &mut Pieces<'_, S>) -> Put
     ensures same_sink { HaveSameSink out.old out.new }
-    ensures passes { Passes (S.written (sink_of out.old))
-        (pending out.old) (S.written (sink_of out.new)) (pending out.new)
-        (with_number first.now second.now number) result }
-    ensures counts { CountsPut (S.faults (sink_of out.old)) (S.faults (sink_of out.new)) result }
+    ensures passes { Buffers out.old out.new (with_number first.now second.now number) result }
 {
     let mut digits = Buffer::new();
     out.put_all(&[
@@ -62,19 +59,14 @@ fn put_with_number<S: Sink>(first: &[u8], second: &str, number: u16, out: &mut P
 // A word after another, with the end of the line.
 fn put_word<S: Sink>(first: &[u8], second: &str, out: &mut Pieces<'_, S>) -> Put
     ensures same_sink { HaveSameSink out.old out.new }
-    ensures passes { Passes (S.written (sink_of out.old))
-        (pending out.old) (S.written (sink_of out.new)) (pending out.new)
-        (first.now ++ (second.now ++ 10 ∷ [])) result }
-    ensures counts { CountsPut (S.faults (sink_of out.old)) (S.faults (sink_of out.new)) result }
+    ensures passes { Buffers out.old out.new (first.now ++ (second.now ++ 10 ∷ [])) result }
 {
     out.put_all(&[first, second.as_bytes(), b"\n"])
 }
 
 fn put_command<S: Sink>(command: &Command, out: &mut Pieces<'_, S>) -> Put
     ensures same_sink { HaveSameSink out.old out.new }
-    ensures passes { Passes (S.written (sink_of out.old)) (pending out.old)
-        (S.written (sink_of out.new)) (pending out.new) (command_text command.now) result }
-    ensures counts { CountsPut (S.faults (sink_of out.old)) (S.faults (sink_of out.new)) result }
+    ensures passes { Buffers out.old out.new (command_text command.now) result }
 {
     match command {
         Command::Operate(operation) => put_word(b"", operation_text(*operation), out),
@@ -100,18 +92,14 @@ fn put_command<S: Sink>(command: &Command, out: &mut Pieces<'_, S>) -> Put
 
 fn put_line<S: Sink>(line: &Line, out: &mut Pieces<'_, S>) -> Put
     ensures same_sink { HaveSameSink out.old out.new }
-    ensures passes { Passes (S.written (sink_of out.old)) (pending out.old)
-        (S.written (sink_of out.new)) (pending out.new) (command_text line.now.command) result }
-    ensures counts { CountsPut (S.faults (sink_of out.old)) (S.faults (sink_of out.new)) result }
+    ensures passes { Buffers out.old out.new (command_text line.now.command) result }
 {
     put_command(&line.command, out)
 }
 
 fn put_lines<S: Sink>(lines: &[Line], out: &mut Pieces<'_, S>) -> Put
     ensures same_sink { HaveSameSink out.old out.new }
-    ensures passes { Passes (S.written (sink_of out.old)) (pending out.old)
-        (S.written (sink_of out.new)) (pending out.new) (lines_text lines.now) result }
-    ensures counts { CountsPut (S.faults (sink_of out.old)) (S.faults (sink_of out.new)) result }
+    ensures passes { Buffers out.old out.new (lines_text lines.now) result }
 {
     for line in lines {
         match put_line(line, out) {
@@ -124,9 +112,7 @@ fn put_lines<S: Sink>(lines: &[Line], out: &mut Pieces<'_, S>) -> Put
 
 fn put_function<S: Sink>(function: &Function, out: &mut Pieces<'_, S>) -> Put
     ensures same_sink { HaveSameSink out.old out.new }
-    ensures passes { Passes (S.written (sink_of out.old)) (pending out.old)
-        (S.written (sink_of out.new)) (pending out.new) (function_text function.now) result }
-    ensures counts { CountsPut (S.faults (sink_of out.old)) (S.faults (sink_of out.new)) result }
+    ensures passes { Buffers out.old out.new (function_text function.now) result }
 {
     match put_with_number(b"function ", function.name.as_str(), function.locals, out) {
         Put::Done => put_lines(function.lines.as_slice(), out),
@@ -136,9 +122,7 @@ fn put_function<S: Sink>(function: &Function, out: &mut Pieces<'_, S>) -> Put
 
 fn put_functions<S: Sink>(functions: &[Function], out: &mut Pieces<'_, S>) -> Put
     ensures same_sink { HaveSameSink out.old out.new }
-    ensures passes { Passes (S.written (sink_of out.old)) (pending out.old)
-        (S.written (sink_of out.new)) (pending out.new) (functions_text functions.now) result }
-    ensures counts { CountsPut (S.faults (sink_of out.old)) (S.faults (sink_of out.new)) result }
+    ensures passes { Buffers out.old out.new (functions_text functions.now) result }
 {
     for function in functions {
         match put_function(function, out) {
@@ -151,9 +135,7 @@ fn put_functions<S: Sink>(functions: &[Function], out: &mut Pieces<'_, S>) -> Pu
 
 fn put_file<S: Sink>(file: &File, out: &mut Pieces<'_, S>) -> Put
     ensures same_sink { HaveSameSink out.old out.new }
-    ensures passes { Passes (S.written (sink_of out.old)) (pending out.old)
-        (S.written (sink_of out.new)) (pending out.new) (file_text file.now) result }
-    ensures counts { CountsPut (S.faults (sink_of out.old)) (S.faults (sink_of out.new)) result }
+    ensures passes { Buffers out.old out.new (file_text file.now) result }
 {
     match put_lines(file.opening.as_slice(), out) {
         Put::Done => put_functions(file.functions.as_slice(), out),
@@ -163,9 +145,7 @@ fn put_file<S: Sink>(file: &File, out: &mut Pieces<'_, S>) -> Put
 
 fn put_files<S: Sink>(files: &[File], out: &mut Pieces<'_, S>) -> Put
     ensures same_sink { HaveSameSink out.old out.new }
-    ensures passes { Passes (S.written (sink_of out.old)) (pending out.old)
-        (S.written (sink_of out.new)) (pending out.new) (program_text files.now) result }
-    ensures counts { CountsPut (S.faults (sink_of out.old)) (S.faults (sink_of out.new)) result }
+    ensures passes { Buffers out.old out.new (program_text files.now) result }
 {
     for file in files {
         match put_file(file, out) {
@@ -180,9 +160,8 @@ fn put_files<S: Sink>(files: &[File], out: &mut Pieces<'_, S>) -> Put
 fn put_program<S: Sink>(program: &Program, out: &mut Pieces<'_, S>) -> Put
     requires { pending out.old ≡ [] }
     ensures same_sink { HaveSameSink out.old out.new }
-    ensures put { Puts (S.written (sink_of out.old)) (S.written (sink_of out.new))
+    ensures put { Puts (S.state (sink_of out.old)) (S.state (sink_of out.new))
         (program_text program.now) result }
-    ensures counts { CountsPut (S.faults (sink_of out.old)) (S.faults (sink_of out.new)) result }
 {
     match put_files(program.as_slice(), out) {
         Put::Done => out.finish(),
@@ -192,8 +171,7 @@ fn put_program<S: Sink>(program: &Program, out: &mut Pieces<'_, S>) -> Put
 
 /// Prints a program: one command a line, its words with one space between them.
 pub fn print<S: Sink>(program: &Program, out: &mut S) -> Put
-    ensures put { Puts (S.written out.old) (S.written out.new) (program_text program.now) result }
-    ensures counts { CountsPut (S.faults out.old) (S.faults out.new) result }
+    ensures put { Puts (S.state out.old) (S.state out.new) (program_text program.now) result }
 {
     let mut pieces = Pieces::new(out);
     put_program(program, &mut pieces)
@@ -202,9 +180,7 @@ pub fn print<S: Sink>(program: &Program, out: &mut S) -> Put
 // The line that names a file.
 fn put_file_line<S: Sink>(name: &str, out: &mut Pieces<'_, S>) -> Put
     ensures same_sink { HaveSameSink out.old out.new }
-    ensures passes { Passes (S.written (sink_of out.old)) (pending out.old)
-        (S.written (sink_of out.new)) (pending out.new) (file_line name.now) result }
-    ensures counts { CountsPut (S.faults (sink_of out.old)) (S.faults (sink_of out.new)) result }
+    ensures passes { Buffers out.old out.new (file_line name.now) result }
 {
     out.put_all(&[b"// file ", name.as_bytes(), b".vm\n"])
 }
@@ -212,9 +188,7 @@ fn put_file_line<S: Sink>(name: &str, out: &mut Pieces<'_, S>) -> Put
 // A file after its line.
 fn put_named<S: Sink>(file: &File, out: &mut Pieces<'_, S>) -> Put
     ensures same_sink { HaveSameSink out.old out.new }
-    ensures passes { Passes (S.written (sink_of out.old)) (pending out.old)
-        (S.written (sink_of out.new)) (pending out.new) (named_text file.now) result }
-    ensures counts { CountsPut (S.faults (sink_of out.old)) (S.faults (sink_of out.new)) result }
+    ensures passes { Buffers out.old out.new (named_text file.now) result }
 {
     match put_file_line(file.name.as_str(), out) {
         Put::Done => put_file(file, out),
@@ -224,9 +198,7 @@ fn put_named<S: Sink>(file: &File, out: &mut Pieces<'_, S>) -> Put
 
 fn put_all_named<S: Sink>(files: &[File], out: &mut Pieces<'_, S>) -> Put
     ensures same_sink { HaveSameSink out.old out.new }
-    ensures passes { Passes (S.written (sink_of out.old)) (pending out.old)
-        (S.written (sink_of out.new)) (pending out.new) (files_text files.now) result }
-    ensures counts { CountsPut (S.faults (sink_of out.old)) (S.faults (sink_of out.new)) result }
+    ensures passes { Buffers out.old out.new (files_text files.now) result }
 {
     for file in files {
         match put_named(file, out) {
@@ -241,10 +213,8 @@ fn put_all_named<S: Sink>(files: &[File], out: &mut Pieces<'_, S>) -> Put
 fn put_listing<S: Sink>(files: &[File], pieces: &mut Pieces<'_, S>) -> Put
     requires { pending pieces.old ≡ [] }
     ensures same_sink { HaveSameSink pieces.old pieces.new }
-    ensures put { Puts (S.written (sink_of pieces.old)) (S.written (sink_of pieces.new))
+    ensures put { Puts (S.state (sink_of pieces.old)) (S.state (sink_of pieces.new))
         (files_text files.now) result }
-    ensures counts { CountsPut (S.faults (sink_of pieces.old))
-        (S.faults (sink_of pieces.new)) result }
 {
     match put_all_named(files, pieces) {
         Put::Done => pieces.finish(),
@@ -254,8 +224,7 @@ fn put_listing<S: Sink>(files: &[File], pieces: &mut Pieces<'_, S>) -> Put
 
 /// Prints files in this order, each after a line `// file NAME.vm`.
 pub fn print_files<S: Sink>(files: &[File], out: &mut S) -> Put
-    ensures put { Puts (S.written out.old) (S.written out.new) (files_text files.now) result }
-    ensures counts { CountsPut (S.faults out.old) (S.faults out.new) result }
+    ensures put { Puts (S.state out.old) (S.state out.new) (files_text files.now) result }
 {
     let mut pieces = Pieces::new(out);
     put_listing(files, &mut pieces)

@@ -16,17 +16,14 @@ around xs i d lt = ap (λ y. y ++ image_text (drop (i + 1) xs)) (words_more xs i
 
 pub returns-in-Failed-clause-passes : goal.returns-in-Failed-clause-passes
 returns-in-Failed-clause-passes g c =
-    let P : List ℕ → Type 0 = λ t. Passes (g.S.Sink.written c.args.out.now.sink.now) (take c.args.out.now.len c.args.out.now.buffer) (g.S.Sink.written c.put_word.new.out.sink.now) (take c.put_word.new.out.len c.put_word.new.out.buffer) t put.Failed in
+    let P : List ℕ → Type 0 = λ t. Passes (g.S.Sink.state c.args.out.now.sink.now) (take c.args.out.now.len c.args.out.now.buffer) (g.S.Sink.state c.put_word.new.out.sink.now) (take c.put_word.new.out.len c.put_word.new.out.buffer) t put.Failed in
     subst P (around c.args.words.now c.loop-word.word-index 0 c.loop-word-test.true)
-    (Passes-cut _ _ _ _ _ _ (Passes-then _ _ _ _ _ _ _ _ _ c.loop-word.invariant.passes.passes c.in-Failed.ensures.passes))
+    (Passes-cut _ _ _ _ _ _ (Passes-then _ _ _ _ _ _ _ _ _ c.loop-word.invariant.passes c.in-Failed.ensures.passes))
 
 pub loop-word-preserved : goal.loop-word-preserved
 loop-word-preserved g c =
     let more = words_more c.args.words.now c.loop-word.word-index 0 c.loop-word-test.true in
     record {
       same_sink = c.in-Done.ensures.same_sink ∙ c.loop-word.invariant.same_sink;
-      passes = record {
-        passes = rw (← more) (Passes-then _ _ _ _ _ _ _ _ _ c.loop-word.invariant.passes.passes c.in-Done.ensures.passes);
-        counts = c.in-Done.ensures.counts ∙ c.loop-word.invariant.passes.counts;
-      };
+      passes = rw (← more) (Passes-then _ _ _ _ _ _ _ _ _ c.loop-word.invariant.passes c.in-Done.ensures.passes);
     }

@@ -18,17 +18,14 @@ around xs i d lt = ap (λ y. y ++ asm_text (drop (i + 1) xs)) (lines_more xs i d
 
 pub returns-in-Failed-clause-passes : goal.returns-in-Failed-clause-passes
 returns-in-Failed-clause-passes g c =
-    let P : List ℕ → Type 0 = λ t. Passes (g.S.Sink.written c.args.out.now.sink.now) (take c.args.out.now.len c.args.out.now.buffer) (g.S.Sink.written c.put_instr.new.out.sink.now) (take c.put_instr.new.out.len c.put_instr.new.out.buffer) t put.Failed in
+    let P : List ℕ → Type 0 = λ t. Passes (g.S.Sink.state c.args.out.now.sink.now) (take c.args.out.now.len c.args.out.now.buffer) (g.S.Sink.state c.put_instr.new.out.sink.now) (take c.put_instr.new.out.len c.put_instr.new.out.buffer) t put.Failed in
     subst P (around c.args.instrs.now c.loop-instr.instr-index (instr.Address 0) c.loop-instr-test.true)
-    (Passes-cut _ _ _ _ _ _ (Passes-then _ _ _ _ _ _ _ _ _ c.loop-instr.invariant.passes.passes c.in-Failed.ensures.passes))
+    (Passes-cut _ _ _ _ _ _ (Passes-then _ _ _ _ _ _ _ _ _ c.loop-instr.invariant.passes c.in-Failed.ensures.passes))
 
 pub loop-instr-preserved : goal.loop-instr-preserved
 loop-instr-preserved g c =
     let more = lines_more c.args.instrs.now c.loop-instr.instr-index (instr.Address 0) c.loop-instr-test.true in
     record {
       same_sink = c.in-Done.ensures.same_sink ∙ c.loop-instr.invariant.same_sink;
-      passes = record {
-        passes = rw (← more) (Passes-then _ _ _ _ _ _ _ _ _ c.loop-instr.invariant.passes.passes c.in-Done.ensures.passes);
-        counts = c.in-Done.ensures.counts ∙ c.loop-instr.invariant.passes.counts;
-      };
+      passes = rw (← more) (Passes-then _ _ _ _ _ _ _ _ _ c.loop-instr.invariant.passes c.in-Done.ensures.passes);
     }

@@ -10,7 +10,4 @@ pub returns-clause-same_sink : goal.returns-clause-same_sink
 returns-clause-same_sink g c = c.put_rest.ensures.same_sink ∙ c.put_chip-status.ensures.writes.same_sink
 
 pub returns-clause-put : goal.returns-clause-put
-returns-clause-put g c = (put_whole c.requires (writes_is (sym (text_whole (hdl start) said_text (chip_tree c.args.chip.now) chip)) c.put_chip-status.ensures.writes) c.put_rest.ensures).0
-
-pub returns-clause-counts : goal.returns-clause-counts
-returns-clause-counts g c = (put_whole c.requires c.put_chip-status.ensures.writes c.put_rest.ensures).1
+returns-clause-put g c = put_whole c.requires (writes_is (sym (text_whole (hdl start) said_text (chip_tree c.args.chip.now) chip)) c.put_chip-status.ensures.writes) c.put_rest.ensures

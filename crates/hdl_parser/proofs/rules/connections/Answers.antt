@@ -1,8 +1,6 @@
 use Rattle.std.proofs.Common.{◌∙◌, sym, arith, length-append, [], ◌∷◌}
-use Rattle.std.proofs.lemmas.Result.{err_from_is_err_and}
 use Rattle.grammar.specs.Rules.{both}
-use Rattle.grammar.proofs.Continues.{begun_seq, go_on_as, done, halt_more}
-use Rattle.grammar.proofs.Exits.{halt_first, halt_second}
+use Rattle.grammar.proofs.Continues.{begun_seq, go_on_as, done}
 use Rattle.hdl_parser.specs.Trees.{connection_tree}
 use Rattle.hdl_parser.proofs.Rows.{row_with-push}
 use Rattle.hdl_parser.proofs.rules.connections.Goals as goal
@@ -13,16 +11,6 @@ more-init c = rw (c.in_ok-push.ensures.items, c.new-connections.ensures.items) r
   shorter = c.in_ok-first.ensures.shorter;
   some = omega arith;
 }
-
-pub returns-in_err-after_comma-clause-reads : goal.returns-in_err-after_comma-clause-reads
-returns-in_err-after_comma-clause-reads c =
-    let p = err_from_is_err_and c.from_residual-in_err-after_comma.result c.from_residual-in_err-after_comma.ensures.1 in
-    rw (p.1, p.2) (halt_more c.more.invariant.so_far (sym c.stands.ensures ∙ c.more-test.true) (halt_first c.in_err-after_comma.ensures.reads))
-
-pub returns-in_err-one-clause-reads : goal.returns-in_err-one-clause-reads
-returns-in_err-one-clause-reads c =
-    let p = err_from_is_err_and c.from_residual-in_err-one.result c.from_residual-in_err-one.ensures.1 in
-    rw (p.1, p.2) (halt_more c.more.invariant.so_far (sym c.stands.ensures ∙ c.more-test.true) (halt_second c.in_ok-after_comma.ensures.reads c.in_err-one.ensures.reads))
 
 pub more-preserved : goal.more-preserved
 more-preserved c = rw c.in_ok-push-2.ensures.items record {

@@ -9,7 +9,7 @@ pub returns-in-Failed-clause-passes : goal.returns-in-Failed-clause-passes
 returns-in-Failed-clause-passes g c =
     let commits = c.args.commits.now in
     let i = c.loop-address.address-index in
-    prints_failed _ _ _ (flat_map commit_line (drop (i + 1) commits)) _ _ _ _ _ _ _ _
+    prints_failed _ _ _ (flat_map commit_line (drop (i + 1) commits)) _ _ _ _ _ _
     (ap (flat_map commit_line) (rest_at commits i (get_or commits i 0) c.loop-address-test.true (get_or_default commits i 0 (get_or commits i 0) c.loop-address-test.true))) c.loop-address.invariant.1
     c.in-Failed.ensures.passes
 
@@ -18,7 +18,7 @@ loop-address-preserved g c =
     let commits = c.args.commits.now in
     let i = c.loop-address.address-index in (
       c.in-Done.ensures.same_sink ∙ c.loop-address.invariant.0,
-      prints_more _ _ _ _ _ _ _ _ _ _ _ _ _
+      prints_more _ _ _ _ _ _ _ _ _ _
           (ap (flat_map commit_line) (rest_at commits i (get_or commits i 0) c.loop-address-test.true (get_or_default commits i 0 (get_or commits i 0) c.loop-address-test.true))) c.loop-address.invariant.1
-          c.in-Done.ensures.passes c.in-Done.ensures.counts,
+          c.in-Done.ensures.passes,
     )

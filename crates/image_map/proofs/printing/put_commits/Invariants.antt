@@ -7,5 +7,5 @@ use Rattle.image_map.proofs.printing.put_commits.Given as goal
 
 abbrev pub invariant-loop-address : goal.invariant-loop-address
 invariant-loop-address g l = (l.out.sink.ghost_name ≡ l.fn.out.sink.ghost_name)
-    × Prints (flat_map commit_line l.commits) (flat_map commit_line (drop l.address-index l.commits)) (g.S.Sink.written l.fn.out.sink.now) (take l.fn.out.len l.fn.out.buffer)
-    (g.S.Sink.written l.out.sink.now) (take l.out.len l.out.buffer) (g.S.Sink.faults l.fn.out.sink.now) (g.S.Sink.faults l.out.sink.now)
+    × Prints (flat_map commit_line l.commits) (flat_map commit_line (drop l.address-index l.commits)) (g.S.Sink.state l.fn.out.sink.now) (take l.fn.out.len l.fn.out.buffer)
+    (g.S.Sink.state l.out.sink.now) (take l.out.len l.out.buffer)

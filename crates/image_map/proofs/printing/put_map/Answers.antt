@@ -7,12 +7,12 @@ use Rattle.image_map.proofs.printing.put_map.Goals as goal
 
 pub returns-in-Done-clause-put : goal.returns-in-Done-clause-put
 returns-in-Done-clause-put g c =
-    let P : List ℕ → Type 0 = λ p. Passes (g.S.Sink.written c.args.out.now.sink.now) p (g.S.Sink.written c.put_lines.new.out.sink.now) (take c.put_lines.new.out.len c.put_lines.new.out.buffer)
+    let P : List ℕ → Type 0 = λ p. Passes (g.S.Sink.state c.args.out.now.sink.now) p (g.S.Sink.state c.put_lines.new.out.sink.now) (take c.put_lines.new.out.len c.put_lines.new.out.buffer)
     (map_text (map (λ n. n.now) c.args.names.now) c.args.mapping.now) put.Done in
     Puts-finished _ _ _ _ _ _ (subst P c.requires c.in-Done.ensures.passes) c.finish.ensures.put
 
 pub returns-in-Failed-clause-put : goal.returns-in-Failed-clause-put
 returns-in-Failed-clause-put g c =
-    let P : List ℕ → Type 0 = λ p. Passes (g.S.Sink.written c.args.out.now.sink.now) p (g.S.Sink.written c.put_lines.new.out.sink.now) (take c.put_lines.new.out.len c.put_lines.new.out.buffer)
+    let P : List ℕ → Type 0 = λ p. Passes (g.S.Sink.state c.args.out.now.sink.now) p (g.S.Sink.state c.put_lines.new.out.sink.now) (take c.put_lines.new.out.len c.put_lines.new.out.buffer)
     (map_text (map (λ n. n.now) c.args.names.now) c.args.mapping.now) put.Failed in
     Puts-failed _ _ _ _ (subst P c.requires c.in-Failed.ensures.passes)

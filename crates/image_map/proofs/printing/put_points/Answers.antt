@@ -14,7 +14,7 @@ returns-in-Failed-clause-passes g c =
     let names = map (λ n. n.now) c.args.names.now in
     let points = c.args.points.now in
     let i = c.loop-range.range-index in
-    prints_failed _ _ _ (flat_map (point_line names) (drop (i + 1) points)) _ _ _ _ _ _ _ _
+    prints_failed _ _ _ (flat_map (point_line names) (drop (i + 1) points)) _ _ _ _ _ _
     (ap (flat_map (point_line names)) (rest_at points i (get_or points i nowhere) c.loop-range-test.true (get_or_default points i nowhere (get_or points i nowhere) c.loop-range-test.true))) c.loop-range.invariant.1
     (rw c.name_at.ensures at c.in-Failed.ensures.passes)
 
@@ -24,7 +24,7 @@ loop-range-preserved g c =
     let points = c.args.points.now in
     let i = c.loop-range.range-index in (
       c.in-Done.ensures.same_sink ∙ c.loop-range.invariant.0,
-      prints_more _ _ _ _ _ _ _ _ _ _ _ _ _
+      prints_more _ _ _ _ _ _ _ _ _ _
           (ap (flat_map (point_line names)) (rest_at points i (get_or points i nowhere) c.loop-range-test.true (get_or_default points i nowhere (get_or points i nowhere) c.loop-range-test.true))) c.loop-range.invariant.1
-          (rw c.name_at.ensures at c.in-Done.ensures.passes) c.in-Done.ensures.counts,
+          (rw c.name_at.ensures at c.in-Done.ensures.passes),
     )

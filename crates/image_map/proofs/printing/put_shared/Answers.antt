@@ -12,7 +12,7 @@ pub returns-in-Failed-clause-passes : goal.returns-in-Failed-clause-passes
 returns-in-Failed-clause-passes g c =
     let shared = c.args.shared.now in
     let i = c.loop-range.range-index in
-    prints_failed _ _ _ (flat_map shared_line (drop (i + 1) shared)) _ _ _ _ _ _ _ _
+    prints_failed _ _ _ (flat_map shared_line (drop (i + 1) shared)) _ _ _ _ _ _
     (ap (flat_map shared_line) (rest_at shared i (get_or shared i nothing) c.loop-range-test.true (get_or_default shared i nothing (get_or shared i nothing) c.loop-range-test.true))) c.loop-range.invariant.1
     c.in-Failed.ensures.passes
 
@@ -21,7 +21,7 @@ loop-range-preserved g c =
     let shared = c.args.shared.now in
     let i = c.loop-range.range-index in (
       c.in-Done.ensures.same_sink ∙ c.loop-range.invariant.0,
-      prints_more _ _ _ _ _ _ _ _ _ _ _ _ _
+      prints_more _ _ _ _ _ _ _ _ _ _
           (ap (flat_map shared_line) (rest_at shared i (get_or shared i nothing) c.loop-range-test.true (get_or_default shared i nothing (get_or shared i nothing) c.loop-range-test.true))) c.loop-range.invariant.1
-          c.in-Done.ensures.passes c.in-Done.ensures.counts,
+          c.in-Done.ensures.passes,
     )

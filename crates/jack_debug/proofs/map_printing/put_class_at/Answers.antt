@@ -9,7 +9,7 @@ use Rattle.jack_debug.proofs.map_printing.put_class_at.Goals as goal
 
 pub returns-in-None-clause-passes : goal.returns-in-None-clause-passes
 returns-in-None-clause-passes g c =
-    let a = g.S.Sink.written (sink_of c.args.out.now) in
+    let a = g.S.Sink.state (sink_of c.args.out.now) in
     let p = pending c.args.out.now in
     let P : Option ClassPlaces → Type 0 = λ o. Passes a p a p (lines_of_class o) put.Done in
     subst P (sym c.in-None.ensures) (Passes-nothing a p)

@@ -10,7 +10,7 @@ pub returns-in-Failed-clause-passes : goal.returns-in-Failed-clause-passes
 returns-in-Failed-clause-passes g c =
     let xs = c.args.by_name.now in
     let i = c.loop-k.k-index in
-    prints_failed _ _ _ (flat_map (λ k. lines_of_class (slice_get c.args.places.now.classes k)) (drop (i + 1) xs)) _ _ _ _ _ _ _ _
+    prints_failed _ _ _ (flat_map (λ k. lines_of_class (slice_get c.args.places.now.classes k)) (drop (i + 1) xs)) _ _ _ _ _ _
     (ap (flat_map (λ k. lines_of_class (slice_get c.args.places.now.classes k))) (rest_at xs i (get_or xs i 0) c.loop-k-test.true (get_or_default xs i 0 (get_or xs i 0) c.loop-k-test.true)))
     c.loop-k.invariant.1 c.in-Failed.ensures.passes
 
@@ -19,7 +19,7 @@ loop-k-preserved g c =
     let xs = c.args.by_name.now in
     let i = c.loop-k.k-index in (
       c.in-Done.ensures.same_sink ∙ c.loop-k.invariant.0,
-      prints_more _ _ _ (flat_map (λ k. lines_of_class (slice_get c.args.places.now.classes k)) (drop (i + 1) xs)) _ _ _ _ _ _ _ _ _
+      prints_more _ _ _ (flat_map (λ k. lines_of_class (slice_get c.args.places.now.classes k)) (drop (i + 1) xs)) _ _ _ _ _ _
           (ap (flat_map (λ k. lines_of_class (slice_get c.args.places.now.classes k))) (rest_at xs i (get_or xs i 0) c.loop-k-test.true (get_or_default xs i 0 (get_or xs i 0) c.loop-k-test.true)))
-          c.loop-k.invariant.1 c.in-Done.ensures.passes c.in-Done.ensures.counts,
+          c.loop-k.invariant.1 c.in-Done.ensures.passes,
     )

@@ -8,5 +8,5 @@ use Rattle.jack_debug.proofs.map_printing.put_classes.Given as goal
 
 abbrev pub invariant-loop-k : goal.invariant-loop-k
 invariant-loop-k g l = (l.out.sink.ghost_name ≡ l.fn.out.sink.ghost_name)
-    × Prints (flat_map (λ k. lines_of_class (slice_get l.places.classes k)) l.by_name) (flat_map (λ k. lines_of_class (slice_get l.places.classes k)) (drop l.k-index l.by_name)) (g.S.Sink.written l.fn.out.sink.now) (take l.fn.out.len l.fn.out.buffer)
-    (g.S.Sink.written l.out.sink.now) (take l.out.len l.out.buffer) (g.S.Sink.faults l.fn.out.sink.now) (g.S.Sink.faults l.out.sink.now)
+    × Prints (flat_map (λ k. lines_of_class (slice_get l.places.classes k)) l.by_name) (flat_map (λ k. lines_of_class (slice_get l.places.classes k)) (drop l.k-index l.by_name)) (g.S.Sink.state l.fn.out.sink.now) (take l.fn.out.len l.fn.out.buffer)
+    (g.S.Sink.state l.out.sink.now) (take l.out.len l.out.buffer)

@@ -7,7 +7,7 @@ pub returns-in-Failed-clause-passes : goal.returns-in-Failed-clause-passes
 returns-in-Failed-clause-passes g c =
     let xs = c.args.names.now in
     let i = c.loop-k.k in
-    prints_failed _ _ _ (field_lines c.args.class.now (i + 1) (drop (i + 1) xs)) _ _ _ _ _ _ _ _
+    prints_failed _ _ _ (field_lines c.args.class.now (i + 1) (drop (i + 1) xs)) _ _ _ _ _ _
     (ap (field_lines c.args.class.now i) (rest_at xs i c.index-names-k.result c.loop-k-test.true c.index-names-k.is))
     c.loop-k.invariant.1 c.in-Failed.ensures.passes
 
@@ -16,7 +16,7 @@ loop-k-preserved g c =
     let xs = c.args.names.now in
     let i = c.loop-k.k in (
       c.in-Done.ensures.same_sink ∙ c.loop-k.invariant.0,
-      prints_more _ _ _ (field_lines c.args.class.now (i + 1) (drop (i + 1) xs)) _ _ _ _ _ _ _ _ _
+      prints_more _ _ _ (field_lines c.args.class.now (i + 1) (drop (i + 1) xs)) _ _ _ _ _ _
           (ap (field_lines c.args.class.now i) (rest_at xs i c.index-names-k.result c.loop-k-test.true c.index-names-k.is))
-          c.loop-k.invariant.1 c.in-Done.ensures.passes c.in-Done.ensures.counts,
+          c.loop-k.invariant.1 c.in-Done.ensures.passes,
     )

@@ -6,5 +6,5 @@ use Rattle.jack_debug.proofs.map_printing.put_fields.Given as goal
 
 abbrev pub invariant-loop-k : goal.invariant-loop-k
 invariant-loop-k g l = (l.out.sink.ghost_name ≡ l.fn.out.sink.ghost_name)
-    × Prints (field_lines l.class 0 l.names) (field_lines l.class l.k (drop l.k l.names)) (g.S.Sink.written l.fn.out.sink.now) (take l.fn.out.len l.fn.out.buffer)
-    (g.S.Sink.written l.out.sink.now) (take l.out.len l.out.buffer) (g.S.Sink.faults l.fn.out.sink.now) (g.S.Sink.faults l.out.sink.now)
+    × Prints (field_lines l.class 0 l.names) (field_lines l.class l.k (drop l.k l.names)) (g.S.Sink.state l.fn.out.sink.now) (take l.fn.out.len l.fn.out.buffer)
+    (g.S.Sink.state l.out.sink.now) (take l.out.len l.out.buffer)

@@ -13,7 +13,7 @@ pub returns-in-Failed-clause-passes : goal.returns-in-Failed-clause-passes
 returns-in-Failed-clause-passes g c =
     let xs = c.args.ranges.now in
     let i = c.loop-range.range-index in
-    prints_failed _ _ _ (flat_map (point_line c.args.places.now) (drop (i + 1) xs)) _ _ _ _ _ _ _ _
+    prints_failed _ _ _ (flat_map (point_line c.args.places.now) (drop (i + 1) xs)) _ _ _ _ _ _
     (ap (flat_map (point_line c.args.places.now)) (rest_at xs i (get_or xs i nowhere) c.loop-range-test.true (get_or_default xs i nowhere (get_or xs i nowhere) c.loop-range-test.true)))
     c.loop-range.invariant.1 c.in-Failed.ensures.passes
 
@@ -22,7 +22,7 @@ loop-range-preserved g c =
     let xs = c.args.ranges.now in
     let i = c.loop-range.range-index in (
       c.in-Done.ensures.same_sink ∙ c.loop-range.invariant.0,
-      prints_more _ _ _ (flat_map (point_line c.args.places.now) (drop (i + 1) xs)) _ _ _ _ _ _ _ _ _
+      prints_more _ _ _ (flat_map (point_line c.args.places.now) (drop (i + 1) xs)) _ _ _ _ _ _
           (ap (flat_map (point_line c.args.places.now)) (rest_at xs i (get_or xs i nowhere) c.loop-range-test.true (get_or_default xs i nowhere (get_or xs i nowhere) c.loop-range-test.true)))
-          c.loop-range.invariant.1 c.in-Done.ensures.passes c.in-Done.ensures.counts,
+          c.loop-range.invariant.1 c.in-Done.ensures.passes,
     )

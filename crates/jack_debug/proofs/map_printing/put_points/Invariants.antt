@@ -7,5 +7,5 @@ use Rattle.jack_debug.proofs.map_printing.put_points.Given as goal
 
 abbrev pub invariant-loop-range : goal.invariant-loop-range
 invariant-loop-range g l = (l.out.sink.ghost_name ≡ l.fn.out.sink.ghost_name)
-    × Prints (flat_map (point_line l.places) l.ranges) (flat_map (point_line l.places) (drop l.range-index l.ranges)) (g.S.Sink.written l.fn.out.sink.now) (take l.fn.out.len l.fn.out.buffer)
-    (g.S.Sink.written l.out.sink.now) (take l.out.len l.out.buffer) (g.S.Sink.faults l.fn.out.sink.now) (g.S.Sink.faults l.out.sink.now)
+    × Prints (flat_map (point_line l.places) l.ranges) (flat_map (point_line l.places) (drop l.range-index l.ranges)) (g.S.Sink.state l.fn.out.sink.now) (take l.fn.out.len l.fn.out.buffer)
+    (g.S.Sink.state l.out.sink.now) (take l.out.len l.out.buffer)

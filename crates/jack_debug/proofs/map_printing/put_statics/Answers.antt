@@ -8,7 +8,7 @@ pub returns-in-Failed-clause-passes : goal.returns-in-Failed-clause-passes
 returns-in-Failed-clause-passes g c =
     let xs = c.args.statics.now in
     let i = c.loop-variable.variable-index in
-    prints_failed _ _ _ (flat_map (static_line c.args.class.now) (drop (i + 1) xs)) _ _ _ _ _ _ _ _
+    prints_failed _ _ _ (flat_map (static_line c.args.class.now) (drop (i + 1) xs)) _ _ _ _ _ _
     (ap (flat_map (static_line c.args.class.now)) (rest_at xs i c.variable-item.result c.loop-variable-test.true c.variable-item.is))
     c.loop-variable.invariant.1 c.in-Failed.ensures.passes
 
@@ -17,7 +17,7 @@ loop-variable-preserved g c =
     let xs = c.args.statics.now in
     let i = c.loop-variable.variable-index in (
       c.in-Done.ensures.same_sink ∙ c.loop-variable.invariant.0,
-      prints_more _ _ _ (flat_map (static_line c.args.class.now) (drop (i + 1) xs)) _ _ _ _ _ _ _ _ _
+      prints_more _ _ _ (flat_map (static_line c.args.class.now) (drop (i + 1) xs)) _ _ _ _ _ _
           (ap (flat_map (static_line c.args.class.now)) (rest_at xs i c.variable-item.result c.loop-variable-test.true c.variable-item.is))
-          c.loop-variable.invariant.1 c.in-Done.ensures.passes c.in-Done.ensures.counts,
+          c.loop-variable.invariant.1 c.in-Done.ensures.passes,
     )

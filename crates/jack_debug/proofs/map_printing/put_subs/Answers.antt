@@ -10,7 +10,7 @@ pub returns-in-Failed-clause-passes : goal.returns-in-Failed-clause-passes
 returns-in-Failed-clause-passes g c =
     let xs = c.args.linked.now in
     let i = c.loop-number.number-index in
-    prints_failed _ _ _ (flat_map (λ k. lines_of_sub (sub_at c.args.places.now k)) (drop (i + 1) xs)) _ _ _ _ _ _ _ _
+    prints_failed _ _ _ (flat_map (λ k. lines_of_sub (sub_at c.args.places.now k)) (drop (i + 1) xs)) _ _ _ _ _ _
     (ap (flat_map (λ k. lines_of_sub (sub_at c.args.places.now k))) (rest_at xs i (get_or xs i 0) c.loop-number-test.true (get_or_default xs i 0 (get_or xs i 0) c.loop-number-test.true)))
     c.loop-number.invariant.1 c.in-Failed.ensures.passes
 
@@ -19,7 +19,7 @@ loop-number-preserved g c =
     let xs = c.args.linked.now in
     let i = c.loop-number.number-index in (
       c.in-Done.ensures.same_sink ∙ c.loop-number.invariant.0,
-      prints_more _ _ _ (flat_map (λ k. lines_of_sub (sub_at c.args.places.now k)) (drop (i + 1) xs)) _ _ _ _ _ _ _ _ _
+      prints_more _ _ _ (flat_map (λ k. lines_of_sub (sub_at c.args.places.now k)) (drop (i + 1) xs)) _ _ _ _ _ _
           (ap (flat_map (λ k. lines_of_sub (sub_at c.args.places.now k))) (rest_at xs i (get_or xs i 0) c.loop-number-test.true (get_or_default xs i 0 (get_or xs i 0) c.loop-number-test.true)))
-          c.loop-number.invariant.1 c.in-Done.ensures.passes c.in-Done.ensures.counts,
+          c.loop-number.invariant.1 c.in-Done.ensures.passes,
     )

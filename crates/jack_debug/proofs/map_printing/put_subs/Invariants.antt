@@ -8,5 +8,5 @@ use Rattle.jack_debug.proofs.map_printing.put_subs.Given as goal
 
 abbrev pub invariant-loop-number : goal.invariant-loop-number
 invariant-loop-number g l = (l.out.sink.ghost_name ≡ l.fn.out.sink.ghost_name)
-    × Prints (flat_map (λ k. lines_of_sub (sub_at l.places k)) l.linked) (flat_map (λ k. lines_of_sub (sub_at l.places k)) (drop l.number-index l.linked)) (g.S.Sink.written l.fn.out.sink.now) (take l.fn.out.len l.fn.out.buffer)
-    (g.S.Sink.written l.out.sink.now) (take l.out.len l.out.buffer) (g.S.Sink.faults l.fn.out.sink.now) (g.S.Sink.faults l.out.sink.now)
+    × Prints (flat_map (λ k. lines_of_sub (sub_at l.places k)) l.linked) (flat_map (λ k. lines_of_sub (sub_at l.places k)) (drop l.number-index l.linked)) (g.S.Sink.state l.fn.out.sink.now) (take l.fn.out.len l.fn.out.buffer)
+    (g.S.Sink.state l.out.sink.now) (take l.out.len l.out.buffer)

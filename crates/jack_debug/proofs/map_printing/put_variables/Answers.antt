@@ -13,7 +13,7 @@ pub returns-in-Failed-clause-passes : goal.returns-in-Failed-clause-passes
 returns-in-Failed-clause-passes g c =
     let xs = c.args.names.now in
     let i = c.loop-i.i in
-    prints_failed _ _ _ (variable_lines c.args.sub.now c.args.kind.now (c.args.first + (i + 1)) (drop (i + 1) xs)) _ _ _ _ _ _ _ _
+    prints_failed _ _ _ (variable_lines c.args.sub.now c.args.kind.now (c.args.first + (i + 1)) (drop (i + 1) xs)) _ _ _ _ _ _
     (lines_next c.args.sub.now c.args.kind.now c.args.first i c.index-names-i.result xs (rest_at xs i c.index-names-i.result c.loop-i-test.true c.index-names-i.is))
     c.loop-i.invariant.1 c.in-Failed.ensures.passes
 
@@ -22,10 +22,10 @@ loop-i-preserved g c =
     let xs = c.args.names.now in
     let i = c.loop-i.i in (
       c.in-Done.ensures.same_sink ∙ c.loop-i.invariant.0,
-      prints_more _ _ _ (variable_lines c.args.sub.now c.args.kind.now (c.args.first + (i + 1)) (drop (i + 1) xs)) _ _ _ _ _ _ _ _ _
+      prints_more _ _ _ (variable_lines c.args.sub.now c.args.kind.now (c.args.first + (i + 1)) (drop (i + 1) xs)) _ _ _ _ _ _
           (lines_next c.args.sub.now c.args.kind.now c.args.first i c.index-names-i.result xs (rest_at xs i c.index-names-i.result c.loop-i-test.true c.index-names-i.is))
-          c.loop-i.invariant.1 c.in-Done.ensures.passes c.in-Done.ensures.counts,
+          c.loop-i.invariant.1 c.in-Done.ensures.passes,
     )
 
 pub loop-i-init : goal.loop-i-init
-loop-i-init g c = (refl, rw add-zero (prints_start _ _ _ _))
+loop-i-init g c = (refl, rw add-zero (prints_start _ _ _))

@@ -6,5 +6,5 @@ use Rattle.jack_debug.proofs.map_printing.put_variables.Given as goal
 
 abbrev pub invariant-loop-i : goal.invariant-loop-i
 invariant-loop-i g l = (l.out.sink.ghost_name ≡ l.fn.out.sink.ghost_name)
-    × Prints (variable_lines l.sub l.kind l.first l.names) (variable_lines l.sub l.kind (l.first + l.i) (drop l.i l.names)) (g.S.Sink.written l.fn.out.sink.now) (take l.fn.out.len l.fn.out.buffer)
-    (g.S.Sink.written l.out.sink.now) (take l.out.len l.out.buffer) (g.S.Sink.faults l.fn.out.sink.now) (g.S.Sink.faults l.out.sink.now)
+    × Prints (variable_lines l.sub l.kind l.first l.names) (variable_lines l.sub l.kind (l.first + l.i) (drop l.i l.names)) (g.S.Sink.state l.fn.out.sink.now) (take l.fn.out.len l.fn.out.buffer)
+    (g.S.Sink.state l.out.sink.now) (take l.out.len l.out.buffer)

@@ -7,5 +7,5 @@ use Rattle.jack_debug.proofs.printing.put_variables.Given as goal
 
 abbrev pub invariant-loop-variable : goal.invariant-loop-variable
 invariant-loop-variable g l = (l.out.sink.ghost_name ≡ l.fn.out.sink.ghost_name)
-    × Prints (flat_map (variable_line l.what) l.variables) (flat_map (variable_line l.what) (drop l.variable-index l.variables)) (g.S.Sink.written l.fn.out.sink.now) (take l.fn.out.len l.fn.out.buffer)
-    (g.S.Sink.written l.out.sink.now) (take l.out.len l.out.buffer) (g.S.Sink.faults l.fn.out.sink.now) (g.S.Sink.faults l.out.sink.now)
+    × Prints (flat_map (variable_line l.what) l.variables) (flat_map (variable_line l.what) (drop l.variable-index l.variables)) (g.S.Sink.state l.fn.out.sink.now) (take l.fn.out.len l.fn.out.buffer)
+    (g.S.Sink.state l.out.sink.now) (take l.out.len l.out.buffer)

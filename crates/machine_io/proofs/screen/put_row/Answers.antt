@@ -18,7 +18,7 @@ loop-k-preserved g c = record {
       let is_word = gives place c.word.result from_on up_to c.word.ensures in
       handed_more _ _ _ _ _ _ _ _ _ _ (pixels-more words c.args.row c.loop-k.k) (c.loop-k.invariant.passes words gives)
       (handed_as _ _ _ _ _ _ _ (c.pixels.ensures ∙ ap pixels_of is_word) c.in-Done.ensures.passes);
-  counts = c.in-Done.ensures.counts ∙ c.loop-k.invariant.counts;
+  counts = c.in-Done.ensures.passes.counts ∙ c.loop-k.invariant.counts;
 }
 
 pub returns-in-Failed-clause-passes : goal.returns-in-Failed-clause-passes

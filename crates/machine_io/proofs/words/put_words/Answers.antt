@@ -22,7 +22,7 @@ loop-address-preserved g c = record {
       handed_more _ _ _ _ _ _ _ _ _ _ (lines-step words c.args.zeros c.args.from c.loop-address.address from_on)
       (c.loop-address.invariant.passes words gives)
       (handed_as _ _ _ _ _ _ _ (ap (shown_line c.args.zeros c.loop-address.address) is_word) c.in-Done.ensures.passes);
-  counts = c.in-Done.ensures.counts ∙ c.loop-address.invariant.counts;
+  counts = c.in-Done.ensures.passes.counts ∙ c.loop-address.invariant.counts;
   near = omega arith;
 }
 

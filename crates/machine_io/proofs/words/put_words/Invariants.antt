@@ -9,7 +9,7 @@ use Rattle.machine_io.proofs.words.put_words.Given as goal
 abbrev pub invariant-loop-address : goal.invariant-loop-address
 invariant-loop-address g l = record {
   same_sink : l.out.sink.ghost_name ≡ l.fn.out.sink.ghost_name;
-  passes : (words : ℕ → ℕ) → Gives (goal.W-post g l.word) l.from l.to words → Passes (g.S.Sink.written l.fn.out.sink.now) (take l.fn.out.len l.fn.out.buffer) (g.S.Sink.written l.out.sink.now) (take l.out.len l.out.buffer) (lines words l.zeros l.from (l.address - l.from)) put.Done;
-  counts : g.S.Sink.faults l.out.sink.now ≡ g.S.Sink.faults l.fn.out.sink.now;
+  passes : (words : ℕ → ℕ) → Gives (goal.W-post g l.word) l.from l.to words → Passes (g.S.Sink.state l.fn.out.sink.now) (take l.fn.out.len l.fn.out.buffer) (g.S.Sink.state l.out.sink.now) (take l.out.len l.out.buffer) (lines words l.zeros l.from (l.address - l.from)) put.Done;
+  counts : (g.S.Sink.state l.out.sink.now).faults ≡ (g.S.Sink.state l.fn.out.sink.now).faults;
   near : l.address ≤ max l.from (l.to + 1);
 }

@@ -5,5 +5,5 @@ use Rattle.vm_tree.proofs.printing.put_files.Given as goal
 
 abbrev pub invariant-loop-file : goal.invariant-loop-file
 invariant-loop-file g l = (l.out.sink.ghost_name ≡ l.fn.out.sink.ghost_name)
-    × Prints (program_text l.files) (program_text (drop l.file-index l.files)) (g.S.Sink.written l.fn.out.sink.now) (take l.fn.out.len l.fn.out.buffer)
-    (g.S.Sink.written l.out.sink.now) (take l.out.len l.out.buffer) (g.S.Sink.faults l.fn.out.sink.now) (g.S.Sink.faults l.out.sink.now)
+    × Prints (program_text l.files) (program_text (drop l.file-index l.files)) (g.S.Sink.state l.fn.out.sink.now) (take l.fn.out.len l.fn.out.buffer)
+    (g.S.Sink.state l.out.sink.now) (take l.out.len l.out.buffer)
