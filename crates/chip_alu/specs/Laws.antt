@@ -28,7 +28,9 @@ Inc16Law = Always HasAluChips inc16_tree (λ w c. word w "out" c ≡ word_add (w
 -- What the ALU gives in a cycle, with the functions of the instruction table. Each input is set to 0 and turned over as its two bits ask, f takes
 -- the sum or the common bits, no turns the output over. The output zr is 1 exactly where out is 0, ng where its signed reading is below 0.
 pub record AluWorks (w : Histories) (c : ℕ) : Type 0 where
-  pub out : word w "out" c ≡ combine (bit w "f" c) (bit w "no" c) (preset (bit w "zx" c) (bit w "nx" c) (word w "x" c)) (preset (bit w "zy" c) (bit w "ny" c) (word w "y" c))
+  pub out : word w "out" c
+      ≡ combine (bit w "f" c) (bit w "no" c) (preset (bit w "zx" c) (bit w "nx" c) (word w "x" c))
+      (preset (bit w "zy" c) (bit w "ny" c) (word w "y" c))
   pub zr : bit w "zr" c ≡ (word w "out" c == 0)
   pub ng : bit w "ng" c ≡ nat_lt 32767 (word w "out" c)
 

@@ -114,7 +114,8 @@ fn add_full_adder(alloc: Global, parts: &mut Vec<Part>, bit: u8) -> Result<(), A
 
 // The parts of the bits above the lowest, after those that are there.
 fn add_full_adders(alloc: Global, parts: &mut Vec<Part>) -> Result<(), AllocError>
-    ensures { IfOk result (λ _. parts.new.items ≡ parts.old.items ++ each 15 (λ i. add_bit (suc i))) }
+    ensures { IfOk result
+        (λ _. parts.new.items ≡ parts.old.items ++ each 15 (λ i. add_bit (suc i))) }
 {
     for below in 0..15 {
         add_full_adder(alloc, parts, below + 1)?;
@@ -173,6 +174,34 @@ pub fn inc16_tree(alloc: Global) -> Result<Chip, AllocError>
         List::of(parts),
     )
 }
+
+/// The part of a chip that finds whether a bit of the net `lowHalf` is 1.
+pub const SOME_LOW_BIT: Row<'static> = Row {
+    chip: b"Or8Way",
+    links: &[
+        Link::Wire(b"in", b"lowHalf"),
+        Link::Wire(b"out", b"someLow"),
+    ],
+};
+
+/// The part that finds whether a bit of the net `highHalf` is 1.
+pub const SOME_HIGH_BIT: Row<'static> = Row {
+    chip: b"Or8Way",
+    links: &[
+        Link::Wire(b"in", b"highHalf"),
+        Link::Wire(b"out", b"someHigh"),
+    ],
+};
+
+/// The part that finds whether a bit of either half is 1, after the two others.
+pub const SOME_BIT: Row<'static> = Row {
+    chip: b"Or",
+    links: &[
+        Link::Wire(b"a", b"someLow"),
+        Link::Wire(b"b", b"someHigh"),
+        Link::Wire(b"out", b"some"),
+    ],
+};
 
 // The parts of the ALU.
 const ALU: &[Row<'static>] = &[
@@ -267,28 +296,9 @@ const ALU: &[Row<'static>] = &[
         ],
     },
     // whether the output is 0
-    Row {
-        chip: b"Or8Way",
-        links: &[
-            Link::Wire(b"in", b"lowHalf"),
-            Link::Wire(b"out", b"someLow"),
-        ],
-    },
-    Row {
-        chip: b"Or8Way",
-        links: &[
-            Link::Wire(b"in", b"highHalf"),
-            Link::Wire(b"out", b"someHigh"),
-        ],
-    },
-    Row {
-        chip: b"Or",
-        links: &[
-            Link::Wire(b"a", b"someLow"),
-            Link::Wire(b"b", b"someHigh"),
-            Link::Wire(b"out", b"some"),
-        ],
-    },
+    SOME_LOW_BIT,
+    SOME_HIGH_BIT,
+    SOME_BIT,
     Row {
         chip: b"Not",
         links: &[Link::Wire(b"in", b"some"), Link::Wire(b"out", b"zr")],

@@ -212,7 +212,8 @@ fn add_demux(alloc: Global, parts: &mut Vec<Part>, sel: Joint<'_>) -> Result<(),
 // The part that chooses one of eight words.
 fn add_mux(alloc: Global, parts: &mut Vec<Part>, sel: Joint<'_>) -> Result<(), AllocError>
     ensures { IfOk result (λ _. parts.new.items
-        ≡ parts.old.items ++ part "Mux8Way16" (ways 8 "word" ++ sel.entry ∷ wire "out" "out" ∷ []) ∷ []) }
+        ≡ parts.old.items
+        ++ part "Mux8Way16" (ways 8 "word" ++ sel.entry ∷ wire "out" "out" ∷ []) ∷ []) }
 {
     add_part(
         alloc,
@@ -282,7 +283,8 @@ fn add_smaller(
     number: u8,
 ) -> Result<(), AllocError>
     requires { 0 < bits }
-    ensures { IfOk result (λ _. parts.new.items ≡ parts.old.items ++ smaller name.now bits number ∷ []) }
+    ensures { IfOk result
+        (λ _. parts.new.items ≡ parts.old.items ++ smaller name.now bits number ∷ []) }
 {
     let load = numbered_name(alloc, b"load", number)?;
     let word = numbered_name(alloc, b"word", number)?;
@@ -308,7 +310,8 @@ fn add_all_smaller(
     count: u8,
 ) -> Result<(), AllocError>
     requires { 0 < bits }
-    ensures { IfOk result (λ _. parts.new.items ≡ parts.old.items ++ each count (smaller name.now bits)) }
+    ensures { IfOk result
+        (λ _. parts.new.items ≡ parts.old.items ++ each count (smaller name.now bits)) }
 {
     for number in 0..count {
         add_smaller(alloc, parts, name, bits, number)?;

@@ -54,9 +54,13 @@ pub record CpuWorks (wires : List ℕ → Histories) (c : ℕ) : Type 0 where
   pub write : bit (wires []) "writeM" c ≡ (op wires c 15 && op wires c 3)
   pub address : number 15 (λ k. wires [] (codes "addressM") k c) ≡ a_held wires c % 32768
   pub pc : number 15 (λ k. wires [] (codes "pc") k c) ≡ pc_held wires c % 32768
-  pub next_a : a_held wires c ≡ before 0 c (λ d. cond (not (op wires d 15) || op wires d 5) (cond (not (op wires d 15)) (word (wires []) "instruction" d) (result wires d)) (a_held wires d))
-  pub next_d : d_held wires c ≡ before 0 c (λ d. cond (op wires d 15 && op wires d 4) (result wires d) (d_held wires d))
-  pub next_pc : pc_held wires c ≡ before 0 c (λ d. cond (bit (wires []) "reset" d) 0 (cond (jumps_on wires d (result wires d)) (a_held wires d) (word_add (pc_held wires d) 1)))
+  pub next_a : a_held wires c ≡ before 0 c (λ d. cond (not (op wires d 15) || op wires d 5)
+      (cond (not (op wires d 15)) (word (wires []) "instruction" d) (result wires d))
+      (a_held wires d))
+  pub next_d : d_held wires c
+      ≡ before 0 c (λ d. cond (op wires d 15 && op wires d 4) (result wires d) (d_held wires d))
+  pub next_pc : pc_held wires c ≡ before 0 c (λ d. cond (bit (wires []) "reset" d) 0
+      (cond (jumps_on wires d (result wires d)) (a_held wires d) (word_add (pc_held wires d) 1)))
 
 abbrev pub CpuLaw : Type 0
 CpuLaw = (world : World) (library : Chips) (n : ℕ) (wires : List ℕ → Histories) → HasComputerChips library → IsBehaviour world library (shipped_entry cpu_tree) n wires → (c : ℕ) → c < n → CpuWorks wires c

@@ -23,7 +23,8 @@ ExistenceLaw =
 -- a behaviour of the Computer over n cycles, with an image and keys and without a reset
 pub record ComputerRuns (image : List ℕ) (keys : ℕ → ℕ) (n : ℕ) : Type 0 where
   pub wires : List ℕ → Histories
-  pub behaves : IsBehaviour (outside image keys) (of_blocks shipped_chips) (shipped_entry computer_tree) n wires
+  pub behaves : IsBehaviour (outside image keys) (of_blocks shipped_chips)
+      (shipped_entry computer_tree) n wires
   pub no_reset : (c : ℕ) → bit (wires []) "reset" c ≡ false
 
 -- There is one for each image of words and all keys, so that the law of the Computer speaks of something.

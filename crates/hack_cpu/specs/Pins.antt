@@ -117,7 +117,8 @@ HasEndPins chips = (name : List ℕ) (chip : Entry) (e : End) → find_chip chip
 -- The shipped chips are those of the table, with its pins; each is known by its own name, and no other has it. With blocks and with memories of
 -- gates, the ends of the library have the pins of ends.
 pub record PinsLaw : Type 0 where
-  pub table : map face_of shipped_chips ≡ basic_faces ++ (computing_faces ++ (memory_faces ++ computer_faces))
+  pub table : map face_of shipped_chips
+      ≡ basic_faces ++ (computing_faces ++ (memory_faces ++ computer_faces))
   pub distinct : AreDistinct shipped_chips
   pub ends : (memories : Memories) → HasEnds (chips_in shipped_chips memories)
   pub end_pins : (memories : Memories) → HasEndPins (chips_in shipped_chips memories)

@@ -2,6 +2,7 @@
 ghost use Rattle.std.specs.Prelude.{◌≡◌, ◌++◌, IfOk};
 ghost use Rattle.hack_cpu.specs.Trees.{rom_tree, keyboard_tree, cpu_registers, cpu_result, cpu_jump, cpu_shift, cpu_tree, memory_tree, computer_tree};
 
+use chip_alu::{SOME_BIT, SOME_HIGH_BIT, SOME_LOW_BIT};
 use chip_basic::{Link, Row, builtin, bus, chip, parts_of, pin};
 use hdl_tree::{Chip, List, Part};
 use std::alloc::{AllocError, Global};
@@ -218,28 +219,9 @@ const CPU: &[Row<'static>] = &[
             Link::BitsWire(b"out", 15, 15, b"isNegative"),
         ],
     },
-    Row {
-        chip: b"Or8Way",
-        links: &[
-            Link::Wire(b"in", b"lowHalf"),
-            Link::Wire(b"out", b"someLow"),
-        ],
-    },
-    Row {
-        chip: b"Or8Way",
-        links: &[
-            Link::Wire(b"in", b"highHalf"),
-            Link::Wire(b"out", b"someHigh"),
-        ],
-    },
-    Row {
-        chip: b"Or",
-        links: &[
-            Link::Wire(b"a", b"someLow"),
-            Link::Wire(b"b", b"someHigh"),
-            Link::Wire(b"out", b"some"),
-        ],
-    },
+    SOME_LOW_BIT,
+    SOME_HIGH_BIT,
+    SOME_BIT,
     Row {
         chip: b"Not",
         links: &[Link::Wire(b"in", b"some"), Link::Wire(b"out", b"isZero")],

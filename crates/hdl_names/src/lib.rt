@@ -48,7 +48,8 @@ impl NamedChips {
     /// One chip more, after the others. Where memory runs out, its name may be in the table, and the chip is not there.
     pub fn push(&mut self, alloc: Global, entry: Entry) -> Result<(), AllocError>
         requires { IsIndexed self.old }
-        ensures pushed { OnOk result (self.new.entries.items ≡ self.old.entries.items ++ entry ∷ []) }
+        ensures pushed { OnOk result
+            (self.new.entries.items ≡ self.old.entries.items ++ entry ∷ []) }
         ensures indexed { OnOk result (IsIndexed self.new) }
     {
         let name = Vec::from_slice(alloc, entry.name.as_bytes())?;

@@ -120,7 +120,8 @@ pub record PartWired {X : Type 0} (low high : X) (inner : Entry) (part : Part) (
 
 -- a chip and the parts in it, of which inside i is part i
 pub record PartsWired {X : Type 0} (low high : X) (library : Chips) (chip : Entry) (parts : List Part) (wires : Wires X) (inside : ℕ → Wires X) : Type 0 where
-  pub part : (i : ℕ) (part : Part) (inner : Entry) → slice_get parts i ≡ Some part → find_chip library part.chip ≡ Some inner → PartWired low high inner part wires (inside i)
+  pub part : (i : ℕ) (part : Part) (inner : Entry) → slice_get parts i ≡ Some part
+      → find_chip library part.chip ≡ Some inner → PartWired low high inner part wires (inside i)
   pub undriven : UndrivenIsLow low library chip wires parts
 
 abbrev pub ChipWired : {X : Type 0} → X → X → Chips → Entry → Option End → Wires X → (ℕ → Wires X) → (End → Type 0) → Type 0
