@@ -104,7 +104,7 @@ module _ (nodes : List Node) (blocks : List Block) (lanes : List ℕ) (places : 
             other_same (was (node_at lanes q l)) (row (node_at lanes q l))
             (sym ((far.passed below lane.earlier_below).told l less (omega arith) ∙ ap (λ i. is_other (was i) (row i)) same) ∙ bit_off slots below l idle.0)
       ])
-  idle_op (Read b mask) right idle = absurd idle
+  idle_op (Read b mask address) right idle = absurd idle
 
 -- ---- a piece that is not passed
 
@@ -147,7 +147,7 @@ op_kept n lanes start spans list always slots new q m keep same (Gates a b mask)
 op_kept n lanes start spans list always slots new q m keep same (Lone a b mask_a mask_b) told idle = (keep a.slot told.0 idle.0, keep b.slot told.1 idle.1)
 op_kept n lanes start spans list always slots new q m keep same (Spread a) told idle = keep a.slot told idle
 op_kept n lanes start spans list always slots new q m keep same (Move below a up down mask) told idle = (keep below told.0 idle.0, keep a told.1 idle.1)
-op_kept n lanes start spans list always slots new q m keep same (Read b mask) told idle = absurd idle
+op_kept n lanes start spans list always slots new q m keep same (Read b mask address) told idle = absurd idle
 
 -- the readers of a slot are marked, where it changed
 abbrev pub AreToldOf : List Span → List ℕ → ℕ → ℕ → List Bool → Type 0
@@ -223,7 +223,7 @@ module _ (nodes : List Node) (blocks : List Block) (ops : List Op) (lanes : List
   op_idle q (Lone a b mask_a mask_b) less off right told = (quiet a.slot, quiet b.slot)
   op_idle q (Spread a) less off right told = quiet a.slot
   op_idle q (Move below a up down mask) less off right told = (quiet below, quiet a)
-  op_idle q (Read b mask) less off right told = let low : piece_of q < pieces_in (length ops) = omega arith in absurd (false≢true (sym off ∙ same (piece_of q) low ∙ told))
+  op_idle q (Read b mask address) less off right told = let low : piece_of q < pieces_in (length ops) = omega arith in absurd (false≢true (sym off ∙ same (piece_of q) low ∙ told))
 
   pub idle_end : AreIdle (length nodes) lanes start ops slots marks
   idle_end = record {
@@ -248,7 +248,7 @@ module _ (nodes : List Node) (blocks : List Block) (ops : List Op) (lanes : List
   op_started q (Lone a b mask_a mask_b) off right idle = idle
   op_started q (Spread a) off right idle = idle
   op_started q (Move below a up down mask) off right idle = idle
-  op_started q (Read b mask) off right idle = absurd idle
+  op_started q (Read b mask address) off right idle = absurd idle
 
   pub idle_started : AreIdle (length nodes) lanes (value_in (bits_of places words)) ops slots marks → AreIdle (length nodes) lanes (value_in (bits_of places new)) ops slots marks'
   idle_started idle = record {

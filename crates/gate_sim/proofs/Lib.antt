@@ -1,3 +1,4 @@
+pub mod Addresses
 pub mod Inputs
 pub mod Marking
 pub mod Past

@@ -323,8 +323,8 @@ module _ (nodes : List Node) (blocks : List Block) (lanes : List ℕ) (places : 
     word_at_node : (list : List Node) (k b l : ℕ) → k < length list → IsSuch list k (λ node. node ≡ Word b l) → slice_get list k ≡ Some (Word b l)
     word_at_node list k b l inside is = let there = slice_get-get_or list k Pin inside in there ∙ ap Some (is (get_or list k Pin) there)
 
-    pub read_right : (b mask : ℕ) → ((l : ℕ) → l < 16 → IsReadLane nodes blocks lanes places q l b mask) → (slot : Slot) → ((l : ℕ) → l < 16 → has_bit slot.value l ≡ (if (whole || written b) || list_any (change_at places slots) (address_in (slice_get blocks b)) then has_bit (shown_value (slice_get blocks b) (words b) (value_at places slots)) l else has_bit (slot_at slots q).value l)) → ((l : ℕ) → l < 16 → has_bit slot.change l ≡ is_other (has_bit (slot_at slots q).value l) (has_bit slot.value l)) → IsPassedSlot (length nodes) lanes was row q slot
-    read_right b mask right slot value change =
+    pub read_right : (b mask : ℕ) (address : Option Lane) → ((l : ℕ) → l < 16 → IsReadLane nodes blocks lanes places q l b mask address) → (slot : Slot) → ((l : ℕ) → l < 16 → has_bit slot.value l ≡ (if (whole || written b) || list_any (change_at places slots) (address_in (slice_get blocks b)) then has_bit (shown_value (slice_get blocks b) (words b) (value_at places slots)) l else has_bit (slot_at slots q).value l)) → ((l : ℕ) → l < 16 → has_bit slot.change l ≡ is_other (has_bit (slot_at slots q).value l) (has_bit slot.value l)) → IsPassedSlot (length nodes) lanes was row q slot
+    read_right b mask address right slot value change =
         slot_right slot
         (λ l less inside.
         elim (cases_Bool (has_bit mask l)) [
@@ -337,9 +337,9 @@ module _ (nodes : List Node) (blocks : List Block) (lanes : List ℕ) (places : 
         ])
         change
 
-    pub read_via : (b mask : ℕ) → ((l : ℕ) → l < 16 → IsReadLane nodes blocks lanes places q l b mask) → (slot so : Slot) → so ≡ slot_at slots q → ((l : ℕ) → l < 16 → has_bit slot.value l ≡ (if (whole || written b) || list_any (change_at places slots) (address_in (slice_get blocks b)) then has_bit (shown_value (slice_get blocks b) (words b) (value_at places slots)) l else has_bit so.value l)) → ((l : ℕ) → l < 16 → has_bit slot.change l ≡ is_other (has_bit so.value l) (has_bit slot.value l)) → IsPassedSlot (length nodes) lanes was row q slot
-    read_via b mask right slot so eo value change =
-        read_right b mask right slot
+    pub read_via : (b mask : ℕ) (address : Option Lane) → ((l : ℕ) → l < 16 → IsReadLane nodes blocks lanes places q l b mask address) → (slot so : Slot) → so ≡ slot_at slots q → ((l : ℕ) → l < 16 → has_bit slot.value l ≡ (if (whole || written b) || list_any (change_at places slots) (address_in (slice_get blocks b)) then has_bit (shown_value (slice_get blocks b) (words b) (value_at places slots)) l else has_bit so.value l)) → ((l : ℕ) → l < 16 → has_bit slot.change l ≡ is_other (has_bit so.value l) (has_bit slot.value l)) → IsPassedSlot (length nodes) lanes was row q slot
+    read_via b mask address right slot so eo value change =
+        read_right b mask address right slot
         (λ l less. value l less ∙ ap (λ s. if (whole || written b) || list_any (change_at places slots) (address_in (slice_get blocks b)) then has_bit (shown_value (slice_get blocks b) (words b) (value_at places slots)) l else has_bit s.value l) eo)
         (λ l less. change l less ∙ ap (λ s. is_other (has_bit s.value l) (has_bit slot.value l)) eo)
 
@@ -349,8 +349,8 @@ module _ (nodes : List Node) (blocks : List Block) (lanes : List ℕ) (places : 
     if_count true f (suc n) = let rest = if_count true f n in ap (λ m. m + (if f n then 1 else 0)) rest
     if_count false f (suc n) = let rest = if_count false f n in rest ∙ omega arith
 
-    pub read_counted : (b mask old new : ℕ) → ((l : ℕ) → l < 16 → IsReadLane nodes blocks lanes places q l b mask) → new ≡ old + (if (whole || written b) || list_any (change_at places slots) (address_in (slice_get blocks b)) then count_below (has_bit mask) 16 else 0) → new + taken_before nodes blocks places written whole was row q ≤ old + taken_before nodes blocks places written whole was row (q + 1)
-    read_counted b mask old new right steps =
+    pub read_counted : (b mask old new : ℕ) (address : Option Lane) → ((l : ℕ) → l < 16 → IsReadLane nodes blocks lanes places q l b mask address) → new ≡ old + (if (whole || written b) || list_any (change_at places slots) (address_in (slice_get blocks b)) then count_below (has_bit mask) 16 else 0) → new + taken_before nodes blocks places written whole was row q ≤ old + taken_before nodes blocks places written whole was row (q + 1)
+    read_counted b mask old new address right steps =
         let taken : Node → Bool = is_taken whole blocks (λ k. is_other (was k) (row k)) written in
         let t : Bool = (whole || written b) || list_any (change_at places slots) (address_in (slice_get blocks b)) in
         let all = lanes_before nodes places taken q (λ l. t && has_bit mask l)

@@ -121,6 +121,7 @@ module _ (nodes : List Node) (blocks : List Block) (ops : List Op) (lanes : List
       let few = ordered.few_nodes in
       record {
         block = block_inside blocks b (IsReadable q (length nodes)) fits.1;
+        side = tt;
         read = λ on. elim (cases_eq l bit) [
           | inl e ↦
               let t : nat_eq l bit ≡ true = eq-eqb l bit e in

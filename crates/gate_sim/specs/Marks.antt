@@ -27,5 +27,8 @@ may_be_marked nodes calls k Zero = false
 -- after an evaluation only such nodes, and such blocks, are marked, and no longer all of them
 pub record AreMarksRight (s : SimState) (calls : List Call) : Type 0 where
   pub begun : (told : List Call) → evaluated_calls calls ≡ Some told → s.whole ≡ false
-  pub right : (told : List Call) → evaluated_calls calls ≡ Some told → (k : ℕ) (node : Node) → slice_get s.net.nodes k ≡ Some node → is_marked s k node ≡ true → may_be_marked s.net.nodes calls k node ≡ true
-  pub blocks : (told : List Call) → evaluated_calls calls ≡ Some told → (b : ℕ) → value_in s.written b ≡ true → was_put calls b ≡ true
+  pub right : (told : List Call) → evaluated_calls calls ≡ Some told
+      → (k : ℕ) (node : Node) → slice_get s.net.nodes k ≡ Some node → is_marked s k node ≡ true
+      → may_be_marked s.net.nodes calls k node ≡ true
+  pub blocks : (told : List Call) → evaluated_calls calls ≡ Some told → (b : ℕ)
+      → value_in s.written b ≡ true → was_put calls b ≡ true

@@ -46,10 +46,17 @@ words_at k zero = value_in (true ∷ false ∷ true ∷ false ∷ false ∷ fals
 words_at k (suc c) = value_in (true ∷ false ∷ true ∷ false ∷ true ∷ false ∷ []) k
 
 pub record RowsLaw : Type 0 where
-  pub one : touched_of [] two_gates (Set 0 true ∷ once) once Eval (values_at false false) (values_at true false) ≡ 1
-  pub two : touched_of [] two_gates (Set 1 true ∷ twice) twice Eval (values_at true false) (values_at true true) ≡ 2
-  pub none : touched_of [] two_gates thrice thrice Eval (values_at true true) (values_at true true) ≡ 0
-  pub again : touched_of [] two_gates (Set 0 true ∷ thrice) thrice Eval (values_at true true) (values_at true true) ≡ 1
-  pub put : touched_of two_blocks two_words (Load 1 0 (7 ∷ []) ∷ once) once Eval words_at words_at ≡ 1
-  pub nothing_put : touched_of two_blocks two_words (Load 1 0 [] ∷ once) once Eval words_at words_at ≡ 0
-  pub stored : touched_of two_blocks two_words (Tick ∷ once) (Tick ∷ once) Tock words_at words_at ≡ 1
+  pub one : touched_of [] two_gates (Set 0 true ∷ once) once Eval (values_at false false)
+      (values_at true false) ≡ 1
+  pub two : touched_of [] two_gates (Set 1 true ∷ twice) twice Eval (values_at true false)
+      (values_at true true) ≡ 2
+  pub none : touched_of [] two_gates thrice thrice Eval (values_at true true) (values_at true true)
+      ≡ 0
+  pub again : touched_of [] two_gates (Set 0 true ∷ thrice) thrice Eval (values_at true true)
+      (values_at true true) ≡ 1
+  pub put : touched_of two_blocks two_words (Load 1 0 (7 ∷ []) ∷ once) once Eval words_at words_at
+      ≡ 1
+  pub nothing_put : touched_of two_blocks two_words (Load 1 0 [] ∷ once) once Eval words_at words_at
+      ≡ 0
+  pub stored : touched_of two_blocks two_words (Tick ∷ once) (Tick ∷ once) Tock words_at words_at
+      ≡ 1

@@ -13,11 +13,19 @@ use Rattle.gate_sim.specs.Marks.{AreMarksRight}
 
 -- its pins, the states of its flip-flops, its words, and what the next tock takes are those that the calls lead to
 pub record Keeps (s : SimState) (calls : List Call) : Type 0 where
-  pub pins : (k : ℕ) → slice_get s.net.nodes k ≡ Some Pin → value_in s.start k ≡ pins_of s.net.nodes calls k
-  pub flips : (v : ℕ → ℕ → Bool) → ArePast s.net calls (cycle_of calls) v → (k i : ℕ) → slice_get s.net.nodes k ≡ Some (Flip i) → value_in s.start k ≡ before false (cycle_of calls) (v i)
-  pub words : (v : ℕ → ℕ → Bool) → ArePast s.net calls (cycle_of calls) v → (b a : ℕ) → word_at s.memory b a ≡ words_of s.net.blocks v calls b a
-  pub fixed : (v : ℕ → ℕ → Bool) → ArePast s.net (Tock ∷ calls) (cycle_of (Tock ∷ calls)) v → (k i : ℕ) → slice_get s.net.nodes k ≡ Some (Flip i) → value_in s.fixed k ≡ before false (cycle_of (Tock ∷ calls)) (v i)
-  pub writes : (v : ℕ → ℕ → Bool) → ArePast s.net (Tock ∷ calls) (cycle_of (Tock ∷ calls)) v → (b a old : ℕ) → after_write (write_at s.writes b) a old ≡ written_before s.net.blocks v (cycle_of (Tock ∷ calls)) b a old
+  pub pins : (k : ℕ) → slice_get s.net.nodes k ≡ Some Pin
+      → value_in s.start k ≡ pins_of s.net.nodes calls k
+  pub flips : (v : ℕ → ℕ → Bool)
+      → ArePast s.net calls (cycle_of calls) v → (k i : ℕ) → slice_get s.net.nodes k ≡ Some (Flip i)
+      → value_in s.start k ≡ before false (cycle_of calls) (v i)
+  pub words : (v : ℕ → ℕ → Bool) → ArePast s.net calls (cycle_of calls) v → (b a : ℕ)
+      → word_at s.memory b a ≡ words_of s.net.blocks v calls b a
+  pub fixed : (v : ℕ → ℕ → Bool) → ArePast s.net (Tock ∷ calls) (cycle_of (Tock ∷ calls)) v
+      → (k i : ℕ) → slice_get s.net.nodes k ≡ Some (Flip i)
+      → value_in s.fixed k ≡ before false (cycle_of (Tock ∷ calls)) (v i)
+  pub writes : (v : ℕ → ℕ → Bool) → ArePast s.net (Tock ∷ calls) (cycle_of (Tock ∷ calls)) v
+      → (b a old : ℕ) → after_write (write_at s.writes b) a old
+      ≡ written_before s.net.blocks v (cycle_of (Tock ∷ calls)) b a old
 
 -- the values of its nodes are those of an evaluation after these calls
 abbrev pub IsFresh : SimState → List Call → Type 0

@@ -32,4 +32,7 @@ differs nodes calls told call v w k = was_set nodes calls k || is_other (v k (cy
 -- evaluation, which is given, it takes no more than nodes that were touched since.
 pub record AreFewSteps (net : Net) (calls : List Call) (call : Call) (taken : ℕ) : Type 0 where
   pub first : taken ≤ count_by is_step net.nodes
-  pub later : (told : List Call) (v w : ℕ → ℕ → Bool) → evaluated_calls calls ≡ Some told → AreValues net told v → AreValues net (call ∷ calls) w → taken ≤ count_by (is_touched net.blocks (differs net.nodes calls told call v w) (was_written net.blocks w calls call)) net.nodes
+  pub later : (told : List Call) (v w : ℕ → ℕ → Bool)
+      → evaluated_calls calls ≡ Some told → AreValues net told v → AreValues net (call ∷ calls) w
+      → taken ≤ count_by (is_touched net.blocks (differs net.nodes calls told call v w)
+      (was_written net.blocks w calls call)) net.nodes

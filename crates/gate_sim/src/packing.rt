@@ -2,7 +2,7 @@
 
 ghost use Rattle.std.specs.Prelude.{◌<◌};
 
-use crate::plan::{Lane, NONE, Op, Plan, Take, lone_of};
+use crate::plan::{Lane, NONE, Op, Plan, Take, are_side_by_side, lone_of};
 use crate::rows::{Kind, Row, Rows, push_row, read, row_at, rows_of, short, write};
 use crate::sorting::sorted;
 use netlist::{Block, Node};
@@ -269,6 +269,7 @@ impl Making {
             Kind::Word(block) => Op::Read {
                 block,
                 mask: mask_of(row),
+                address: None,
             },
         };
         let slot = self.push(op, row)?;
@@ -337,6 +338,7 @@ impl Making {
             Op::Read {
                 block,
                 mask: mask_of(row),
+                address: None,
             },
             row,
         )?;
@@ -567,15 +569,61 @@ fn take_all(making: &mut Making, rows: &Rows, nodes: &[Node]) -> Result<(), Allo
     Ok(())
 }
 
+// A plan whose operations stand in the order in which they were made.
+fn made_plan(alloc: Global, nodes: &[Node], blocks: &[Block]) -> Result<Plan, AllocError> {
+    let mut rows = rows_of(alloc, nodes, blocks)?;
+    let mut making = blank_making(alloc, nodes.len())?;
+    place_all(alloc, &mut making, &mut rows, nodes, blocks)?;
+    take_all(&mut making, &rows, nodes)?;
+    Ok(making.plan)
+}
+
+// From which lane on these nodes stand side by side before slot q.
+fn address_lane(places: &[Lane], q: usize, nodes: &[u32]) -> Option<Lane> {
+    if nodes.len() == 0 || nodes[0] as usize >= places.len() {
+        return None;
+    }
+    let first = places[nodes[0] as usize];
+    if are_side_by_side(places, q, nodes, first) {
+        Some(first)
+    } else {
+        None
+    }
+}
+
+// The operation of slot q, which says from which lane on its block's address stands.
+fn addressed(op: Op, q: usize, places: &[Lane], blocks: &[Block]) -> Op {
+    match op {
+        Op::Read { block, mask, .. } => {
+            let address = if (block as usize) < blocks.len() {
+                address_lane(places, q, blocks[block as usize].address.as_slice())
+            } else {
+                None
+            };
+            Op::Read {
+                block,
+                mask,
+                address,
+            }
+        }
+        _ => op,
+    }
+}
+
+fn find_addresses(ops: &mut [Op], places: &[Lane], blocks: &[Block]) {
+    for q in 0..ops.len() {
+        ops[q] = addressed(ops[q], q, places, blocks);
+    }
+}
+
 /// A plan in which equal gates stand side by side.
 pub(crate) fn packed_plan(
     alloc: Global,
     nodes: &[Node],
     blocks: &[Block],
 ) -> Result<Plan, AllocError> {
-    let mut rows = rows_of(alloc, nodes, blocks)?;
-    let mut making = blank_making(alloc, nodes.len())?;
-    place_all(alloc, &mut making, &mut rows, nodes, blocks)?;
-    take_all(&mut making, &rows, nodes)?;
-    sorted(alloc, making.plan, blocks)
+    let plan = made_plan(alloc, nodes, blocks)?;
+    let mut plan = sorted(alloc, plan, blocks)?;
+    find_addresses(&mut plan.ops, &plan.places, blocks);
+    Ok(plan)
 }

@@ -1,6 +1,6 @@
 //! Evaluation that follows changes, by a plan: slot after slot, in which only what is touched is evaluated.
 
-ghost use Rattle.std.specs.Prelude.{◌≡◌, ℕ, ◌+◌, ◌-◌, ◌*◌, ◌<◌, ◌≤◌, ◌≢◌, ◌^◌, Bool, true, false, not, ◌&&◌, ◌||◌, if◌then◌else◌, List, length, min, Some, slice_get, slice_index, MatchOption};
+ghost use Rattle.std.specs.Prelude.{◌≡◌, ℕ, ◌+◌, ◌-◌, ◌*◌, ◌/◌, ◌%◌, ◌<◌, ◌≤◌, ◌≢◌, ◌^◌, Bool, true, false, not, ◌&&◌, ◌||◌, if◌then◌else◌, List, length, min, Some, slice_get, slice_index, slice_set, MatchOption};
 ghost use Rattle.std.specs.List.{All, list_any, count_by};
 ghost use Rattle.word16.specs.Words.{has_bit};
 ghost use Rattle.netlist.specs.declared.node.Block.{Block};
@@ -12,7 +12,7 @@ ghost use Rattle.netlist.specs.Settled.{AreSettled};
 ghost use Rattle.netlist.specs.Touched.{is_other};
 ghost use Rattle.netlist.specs.Words.{HasWords, word_at};
 ghost use Rattle.netlist.specs.Inner.Taken.{is_taken};
-ghost use Rattle.gate_sim.specs.Inner.Plans.{node_at, place_of, lane_mask, IsLane, IsPlaced, IsPlan};
+ghost use Rattle.gate_sim.specs.Inner.Plans.{node_at, place_of, lane_mask, AreSideBySide, IsLane, IsPlaced, IsPlan};
 ghost use Rattle.gate_sim.specs.Inner.Slots.{slot_at, lane_value, value_at, change_at, values_of, bits_of, HasValues, IsPassedSlot, AreStored, ArePassed, ArePlacedIn, Evaluates, count_below, is_taken_before, PassesOp, Passes};
 
 use crate::plan::{Lane, Op, Slot, node_at};
@@ -228,6 +228,49 @@ fn pass_lone<L: Ledger>(
     }
 }
 
+// One gate in all lanes, put in its slot where an input changed. Else it is written alone that nothing changed there. Tells the slot.
+#[inline(always)]
+fn put_lone<L: Ledger>(
+    slots: &mut [Slot],
+    q: usize,
+    a: Lane,
+    b: Lane,
+    mask_a: u16,
+    mask_b: u16,
+    whole: bool,
+    steps: &mut Steps<L>,
+) -> Slot
+    requires place { q < length slots.old }
+    requires slot_a { a.slot < length slots.old }
+    requires lane_a { a.at < 16 }
+    requires mask_a { mask_a ≡ lane_mask a.at }
+    requires slot_b { b.slot < length slots.old }
+    requires lane_b { b.at < 16 }
+    requires mask_b { mask_b ≡ lane_mask b.at }
+    ensures put { slots.new ≡ slice_set slots.old q result }
+    ensures value { (l : ℕ) → l < 16 → has_bit result.value l
+        ≡ (if whole || (has_bit (slot_at slots.old a.slot).change a.at
+        || has_bit (slot_at slots.old b.slot).change b.at)
+        then not (lane_value slots.old a && lane_value slots.old b)
+        else has_bit (slot_at slots.old q).value l) }
+    ensures change { (l : ℕ) → l < 16 → has_bit result.change l
+        ≡ is_other (has_bit (slot_at slots.old q).value l) (has_bit result.value l) }
+    ensures counted { steps.new ≡ steps.old + (if whole
+        || (has_bit (slot_at slots.old a.slot).change a.at
+        || has_bit (slot_at slots.old b.slot).change b.at) then 1 else 0) }
+{
+    if whole | (masked_change(slots, a, mask_a) | masked_change(slots, b, mask_b)) {
+        steps.tick();
+        let bit = !(masked_value(slots, a, mask_a) & masked_value(slots, b, mask_b));
+        let slot = told(slots[q].value, truth(bit));
+        slots[q] = slot;
+        slot
+    } else {
+        slots[q].change = 0;
+        slot_in(slots, q)
+    }
+}
+
 // One lane in all lanes.
 #[inline(always)]
 fn spread(slot: Slot, at: u8) -> Slot
@@ -395,9 +438,144 @@ fn word_of(blocks: &[Block], b: usize, memory: &[Vec<u16>], places: &[Lane], slo
     shown_word(&blocks[b], &memory[b], places, slots)
 }
 
-// The bits of a block's word, where the block was written or its address changed; else they keep what they had.
+// As many bits of a word as this, from one on.
+#[inline(always)]
+fn bits_from(word: u16, at: u8, n: usize) -> u16
+    requires inside { at < 16 }
+    requires fits { at + n ≤ 16 }
+    ensures { result ≡ word / 2 ^ at % 2 ^ n }
+{
+    let low = ((1u32 << n) - 1) as u16;
+    word >> at & low
+}
+
+// Whether one of these nodes changed, which stand side by side.
+#[inline(always)]
+fn any_in_row(nodes: &[u32], places: &[Lane], q: usize, slots: &[Slot], first: Lane) -> bool
+    requires slot { q < length slots.now }
+    requires side { AreSideBySide places.now q nodes.now first }
+    ensures { result ≡ list_any (change_at places.now slots.now) nodes.now }
+{
+    bits_from(slot_at(slots, first.slot).change, first.at, nodes.len()) != 0
+}
+
+// The number that nodes spell, which stand side by side.
+#[inline(always)]
+fn number_in_row(nodes: &[u32], places: &[Lane], q: usize, slots: &[Slot], first: Lane) -> u16
+    requires slot { q < length slots.now }
+    requires side { AreSideBySide places.now q nodes.now first }
+    ensures { result ≡ spelled_number (value_at places.now slots.now) nodes.now }
+{
+    bits_from(slot_at(slots, first.slot).value, first.at, nodes.len())
+}
+
+// The word that a block shows, whose address stands side by side.
+#[inline(always)]
+fn shown_in_row(
+    block: &Block,
+    row: &[u16],
+    places: &[Lane],
+    q: usize,
+    slots: &[Slot],
+    first: Lane,
+) -> u16
+    requires slot { q < length slots.now }
+    requires side { AreSideBySide places.now q block.now.address first }
+    requires row { length row.now ≡ block.now.words }
+    ensures { result ≡ shown_value (Some block.now) (slice_index row.now)
+        (value_at places.now slots.now) }
+{
+    let a = number_in_row(block.address.as_slice(), places, q, slots, first);
+    if u32::from(a) < block.words {
+        row[usize::from(a)]
+    } else {
+        0
+    }
+}
+
+// Whether the address of a block changed, which stands side by side.
+#[inline(always)]
+fn is_row_moved(
+    blocks: &[Block],
+    b: usize,
+    places: &[Lane],
+    q: usize,
+    slots: &[Slot],
+    first: Lane,
+) -> bool
+    requires slot { q < length slots.now }
+    requires side { MatchOption (slice_get blocks.now b) ⊥
+        (λ block. AreSideBySide places.now q block.address first) }
+    ensures { result ≡ list_any (change_at places.now slots.now)
+        (address_in (slice_get blocks.now b)) }
+{
+    any_in_row(blocks[b].address.as_slice(), places, q, slots, first)
+}
+
+// The word that block b shows, whose address stands side by side.
+#[inline(always)]
+fn word_in_row(
+    blocks: &[Block],
+    b: usize,
+    memory: &[Vec<u16>],
+    places: &[Lane],
+    q: usize,
+    slots: &[Slot],
+    first: Lane,
+) -> u16
+    requires slot { q < length slots.now }
+    requires side { MatchOption (slice_get blocks.now b) ⊥
+        (λ block. AreSideBySide places.now q block.address first) }
+    requires words { HasWords blocks.now memory.now }
+    ensures { result ≡ shown_value (slice_get blocks.now b) (word_at memory.now b)
+        (value_at places.now slots.now) }
+{
+    shown_in_row(&blocks[b], &memory[b], places, q, slots, first)
+}
+
+// The bits of a block's word as below, where the address of the block stands side by side from a lane on.
+#[inline(always)]
+fn pass_row<L: Ledger>(
+    blocks: &[Block],
+    b: usize,
+    memory: &[Vec<u16>],
+    places: &[Lane],
+    q: usize,
+    slots: &[Slot],
+    first: Lane,
+    mask: u16,
+    written: bool,
+    old: u16,
+    steps: &mut Steps<L>,
+) -> Slot
+    requires block { b < length blocks.now }
+    requires slot { q < length slots.now }
+    requires side { AreSideBySide places.now q (address_in (slice_get blocks.now b)) first }
+    requires words { HasWords blocks.now memory.now }
+    ensures value { (l : ℕ) → l < 16 → has_bit result.value l
+        ≡ (if written || list_any (change_at places.now slots.now)
+        (address_in (slice_get blocks.now b)) then has_bit
+        (shown_value (slice_get blocks.now b) (word_at memory.now b)
+        (value_at places.now slots.now)) l else has_bit old l) }
+    ensures change { (l : ℕ) → l < 16 → has_bit result.change l
+        ≡ is_other (has_bit old l) (has_bit result.value l) }
+    ensures counted { steps.new ≡ steps.old + (if written
+        || list_any (change_at places.now slots.now) (address_in (slice_get blocks.now b))
+        then count_below (has_bit mask) 16 else 0) }
+{
+    if written | is_row_moved(blocks, b, places, q, slots, first) {
+        tick_lanes(mask, steps);
+        let word = word_in_row(blocks, b, memory, places, q, slots, first);
+        told(old, word)
+    } else {
+        kept(old)
+    }
+}
+
+// The bits of a block's word, where the block was written or its address changed; else they keep what they had. The address is read bit by
+// bit.
 #[inline(never)]
-fn pass_read<L: Ledger>(
+fn pass_placed<L: Ledger>(
     blocks: &[Block],
     b: usize,
     memory: &[Vec<u16>],
@@ -429,6 +607,50 @@ fn pass_read<L: Ledger>(
         told(old, word)
     } else {
         kept(old)
+    }
+}
+
+// The same, wherever the address stands.
+#[inline(always)]
+fn pass_read<L: Ledger>(
+    blocks: &[Block],
+    b: usize,
+    memory: &[Vec<u16>],
+    places: &[Lane],
+    q: usize,
+    slots: &[Slot],
+    address: Option<Lane>,
+    mask: u16,
+    written: bool,
+    old: u16,
+    steps: &mut Steps<L>,
+) -> Slot
+    requires block { b < length blocks.now }
+    requires slot { q < length slots.now }
+    requires side { MatchOption address (Unit {0})
+        (AreSideBySide places.now q (address_in (slice_get blocks.now b))) }
+    requires address { MatchOption (slice_get blocks.now b) ⊥
+        (λ block. All (λ i. i < length places.now) block.address) }
+    requires places { ArePlacedIn (length slots.now) places.now }
+    requires words { HasWords blocks.now memory.now }
+    ensures value { (l : ℕ) → l < 16 → has_bit result.value l
+        ≡ (if written || list_any (change_at places.now slots.now)
+        (address_in (slice_get blocks.now b)) then has_bit
+        (shown_value (slice_get blocks.now b) (word_at memory.now b)
+        (value_at places.now slots.now)) l else has_bit old l) }
+    ensures change { (l : ℕ) → l < 16 → has_bit result.change l
+        ≡ is_other (has_bit old l) (has_bit result.value l) }
+    ensures counted { steps.new ≡ steps.old + (if written
+        || list_any (change_at places.now slots.now) (address_in (slice_get blocks.now b))
+        then count_below (has_bit mask) 16 else 0) }
+{
+    match address {
+        Some(first) => {
+            pass_row(
+                blocks, b, memory, places, q, slots, first, mask, written, old, steps,
+            )
+        }
+        None => pass_placed(blocks, b, memory, places, slots, mask, written, old, steps),
     }
 }
 
@@ -496,10 +718,67 @@ pub(crate) fn pass_op<L: Ledger>(
             let over = slot_at(slots, a);
             moved_slot(under, over, up, down, mask)
         }
-        Op::Read { block, mask } => {
+        Op::Read {
+            block,
+            mask,
+            address,
+        } => {
             let b = block as usize;
             let read = whole | written[b];
-            pass_read(blocks, b, memory, places, slots, mask, read, old, steps)
+            pass_read(
+                blocks, b, memory, places, q, slots, address, mask, read, old, steps,
+            )
+        }
+    }
+}
+
+// Gives a slot its values by its operation. Tells the slot.
+#[inline(always)]
+fn put_op<L: Ledger>(
+    nodes: &[Node],
+    blocks: &[Block],
+    op: &Op,
+    lanes: &[u32],
+    places: &[Lane],
+    q: usize,
+    start: &[u16],
+    memory: &[Vec<u16>],
+    written: &[bool],
+    whole: bool,
+    slots: &mut [Slot],
+    steps: &mut Steps<L>,
+) -> Slot
+    requires ordered { AreOrdered nodes.now blocks.now }
+    requires place { q < length slots.old }
+    requires few { length slots.old < 2 ^ 32 }
+    requires lanes { length lanes.now ≡ 16 * length slots.old }
+    requires places { length places.now ≡ length nodes.now }
+    requires start { length start.now ≡ length slots.old }
+    requires written { length written.now ≡ length blocks.now }
+    requires words { HasWords blocks.now memory.now }
+    requires placed { (k : ℕ) → k < length nodes.now
+        → IsPlaced (length slots.old) lanes.now places.now k }
+    requires right { (l : ℕ) → l < 16
+        → IsLane nodes.now blocks.now lanes.now places.now q l op.now }
+    ensures put { slots.new ≡ slice_set slots.old q result }
+    ensures more { steps.old ≤ steps.new }
+    ensures passes { PassesOp nodes.now blocks.now lanes.now places.now
+        (value_in (bits_of places.now start.now)) (word_at memory.now) (value_in written.now) whole
+        q slots.old result steps.old steps.new }
+{
+    match *op {
+        Op::Lone {
+            a,
+            b,
+            mask_a,
+            mask_b,
+        } => put_lone(slots, q, a, b, mask_a, mask_b, whole, steps),
+        _ => {
+            let slot = pass_op(
+                nodes, blocks, op, lanes, places, q, start, memory, written, whole, slots, steps,
+            );
+            slots[q] = slot;
+            slot
         }
     }
 }
@@ -580,10 +859,9 @@ fn pass_run<L: Ledger>(
         if !is_of_kind(*op, kind) {
             return q;
         }
-        let slot = pass_op(
+        put_op(
             nodes, blocks, op, lanes, places, q, start, memory, written, whole, slots, steps,
         );
-        slots[q] = slot;
     }
     end
 }

@@ -60,6 +60,7 @@ fn node_op(node: Node, places: &[Lane]) -> Op
         Node::Word { block, bit } => Op::Read {
             block,
             mask: 1 << bit,
+            address: None,
         },
         Node::Pin => Op::Held,
         Node::Flip(_) => Op::Held,

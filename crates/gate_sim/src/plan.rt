@@ -1,11 +1,11 @@
 //! Plans: where the values of nodes stand, and which operations give them.
 
-ghost use Rattle.std.specs.Prelude.{◌≡◌, ℕ, ◌+◌, ◌*◌, ◌<◌, ◌≤◌, ◌^◌, Bool, true, length, Some, slice_get};
+ghost use Rattle.std.specs.Prelude.{◌≡◌, ℕ, ◌+◌, ◌*◌, ◌<◌, ◌≤◌, ◌^◌, Bool, true, length, Some, slice_get, MatchOption};
 ghost use Rattle.std.specs.List.{All};
 ghost use Rattle.netlist.specs.declared.node.Node.TheVariants.{Nand, Word, Zero};
 ghost use Rattle.netlist.specs.Order.{AreOrdered};
 ghost use Rattle.netlist.specs.Reads.{address_in};
-ghost use Rattle.gate_sim.specs.Inner.Plans.{node_at, place_of, lane_mask, lone_of, StandsAt, IsEarlier, IsHeld, IsHeldLane, IsGate, IsSuch, ArePair, IsPackedGate, IsGatesLane, IsLoneLane, IsSpreadLane, IsMoveLane, IsPlacedBefore, IsReadBit, IsReadLane, IsLane, IsPlaced, IsPlan};
+ghost use Rattle.gate_sim.specs.Inner.Plans.{node_at, place_of, lane_mask, lone_of, StandsAt, IsEarlier, IsHeld, IsHeldLane, IsGate, IsSuch, ArePair, IsPackedGate, IsGatesLane, IsLoneLane, IsSpreadLane, IsMoveLane, IsPlacedBefore, AreSideBySide, IsReadBit, IsReadLane, IsLane, IsPlaced, IsPlan};
 
 use netlist::{Block, Node};
 use word16::bit;
@@ -27,7 +27,7 @@ pub(crate) struct Slot {
 /// An operation, which gives one slot its values. They are those of pins and flip-flops; zeros; gates of the lanes of two slots, where the
 /// mask has its bit. Or one gate of two lanes, in all sixteen, with the masks of the two; one lane in all sixteen. Or lanes of a slot
 /// moved up and then down, where the mask has its bit, and lanes of another slot elsewhere. Or the bits of a block's word, where the mask
-/// has its bit.
+/// has its bit. Where the address of the block stands side by side in one slot, that says from which lane on.
 #[derive(Clone, Copy)]
 pub(crate) enum Op {
     Held,
@@ -56,6 +56,7 @@ pub(crate) enum Op {
     Read {
         block: u32,
         mask: u16,
+        address: Option<Lane>,
     },
 }
 
@@ -309,6 +310,39 @@ fn are_placed_before(places: &[Lane], q: usize, nodes: &[u32]) -> bool
     true
 }
 
+/// Whether these nodes have their places side by side in a slot before slot q, from a lane on.
+pub(crate) fn are_side_by_side(places: &[Lane], q: usize, nodes: &[u32], first: Lane) -> bool
+    ensures { result ≡ true → AreSideBySide places.now q nodes.now first }
+{
+    if first.slot as usize >= q
+        || first.at >= 16
+        || nodes.len() > 16
+        || usize::from(first.at) + nodes.len() > 16
+    {
+        return false;
+    }
+    for i in 0..nodes.len() {
+        let k = nodes[i] as usize;
+        if k >= places.len()
+            || !stands_at(places, k, first.slot as usize, usize::from(first.at) + i)
+        {
+            return false;
+        }
+    }
+    true
+}
+
+// Whether these nodes do, where a lane is told.
+fn is_address(places: &[Lane], q: usize, nodes: &[u32], address: Option<Lane>) -> bool
+    ensures { result ≡ true → MatchOption address (Unit {0})
+        (AreSideBySide places.now q nodes.now) }
+{
+    match address {
+        None => true,
+        Some(first) => are_side_by_side(places, q, nodes, first),
+    }
+}
+
 fn is_bit_of(node: Node, b: u32, l: usize) -> bool
     ensures { result ≡ true → node ≡ Word b l }
 {
@@ -330,14 +364,18 @@ fn is_read_lane(
     l: usize,
     b: u32,
     mask: u16,
+    address: Option<Lane>,
 ) -> bool
     requires lane { l < 16 }
     requires slot { 16 * q + 16 ≤ length lanes.now }
     requires places { length places.now ≡ length nodes.now }
-    ensures { result ≡ true → IsReadLane nodes.now blocks.now lanes.now places.now q l b mask }
+    ensures { result ≡ true → IsReadLane nodes.now blocks.now lanes.now places.now q l b mask
+        address }
 {
     let k = node_at(lanes, q, l) as usize;
-    if b as usize >= blocks.len() {
+    if b as usize >= blocks.len()
+        || !is_address(places, q, blocks[b as usize].address.as_slice(), address)
+    {
         return false;
     }
     if bit(mask, l as u16) {
@@ -388,9 +426,11 @@ fn is_lane(
             down,
             mask,
         } => { is_move_lane(nodes, lanes, q, l, below, a, up, down, mask) }
-        Op::Read { block, mask } => {
-            is_read_lane(nodes, blocks, lanes, places, q, l, block, mask)
-        }
+        Op::Read {
+            block,
+            mask,
+            address,
+        } => { is_read_lane(nodes, blocks, lanes, places, q, l, block, mask, address) }
     }
 }
 

@@ -18,8 +18,10 @@ HasReads n blocks Zero = Unit {0}
 
 -- each node and each block reads what is there
 pub record AreClosed (nodes : List Node) (blocks : List Block) : Type 0 where
-  pub by_nodes : (k : ℕ) (node : Node) → slice_get nodes k ≡ Some node → HasReads (length nodes) blocks node
-  pub by_blocks : (b : ℕ) (block : Block) → slice_get blocks b ≡ Some block → HasInputs (length nodes) block
+  pub by_nodes : (k : ℕ) (node : Node) → slice_get nodes k ≡ Some node
+      → HasReads (length nodes) blocks node
+  pub by_blocks : (b : ℕ) (block : Block) → slice_get blocks b ≡ Some block
+      → HasInputs (length nodes) block
 
 -- ---- reads within a cycle
 
@@ -41,7 +43,8 @@ next_of circle k = if nat_eq (suc k) (length circle) then slice_get circle 0 els
 -- each node reads the next one, and the last the first
 pub record IsCircle (nodes : List Node) (blocks : List Block) (circle : List ℕ) : Type 0 where
   pub some : 0 < length circle
-  pub reads : (k x y : ℕ) → slice_get circle k ≡ Some x → next_of circle k ≡ Some y → Reads nodes blocks x y
+  pub reads : (k x y : ℕ) → slice_get circle k ≡ Some x → next_of circle k ≡ Some y
+      → Reads nodes blocks x y
 
 -- no node stands twice
 abbrev pub AreOnce : List ℕ → Type 0

@@ -29,11 +29,17 @@ shape block = (block.words, length block.data, length block.address)
 pub record ShowsSame (old new : Net) (keep place : List ℕ) : Type 0 where
   pub number : length place ≡ length keep
   pub inside : (i : ℕ) → i < length keep → slice_index place i < length new.nodes
-  pub kept_pins : (i : ℕ) → i < length keep → slice_get old.nodes (slice_index keep i) ≡ Some Pin → IsPinOf old new (slice_index keep i) (slice_index place i)
+  pub kept_pins : (i : ℕ) → i < length keep → slice_get old.nodes (slice_index keep i) ≡ Some Pin
+      → IsPinOf old new (slice_index keep i) (slice_index place i)
   pub pins : pin_count old.nodes ≡ pin_count new.nodes
-  pub blocks : (b : ℕ) → option_map shape (slice_get old.blocks b) ≡ option_map shape (slice_get new.blocks b)
-  pub values : (h g : Inputs) (n : ℕ) → HearSame old new n h g → (v w : ℕ → ℕ → Bool) → AreValues old h n v → AreValues new g n w → (i c : ℕ) → i < length keep → c < n → v (slice_index keep i) c ≡ w (slice_index place i) c
-  pub words : (h g : Inputs) (n : ℕ) → HearSame old new n h g → (v w : ℕ → ℕ → Bool) → AreValues old h n v → AreValues new g n w → (c b a : ℕ) → c ≤ n → held_in old.blocks h.loaded v c b a ≡ held_in new.blocks g.loaded w c b a
+  pub blocks : (b : ℕ)
+      → option_map shape (slice_get old.blocks b) ≡ option_map shape (slice_get new.blocks b)
+  pub values : (h g : Inputs) (n : ℕ) → HearSame old new n h g → (v w : ℕ → ℕ → Bool)
+      → AreValues old h n v → AreValues new g n w → (i c : ℕ) → i < length keep → c < n
+      → v (slice_index keep i) c ≡ w (slice_index place i) c
+  pub words : (h g : Inputs) (n : ℕ) → HearSame old new n h g
+      → (v w : ℕ → ℕ → Bool) → AreValues old h n v → AreValues new g n w → (c b a : ℕ) → c ≤ n
+      → held_in old.blocks h.loaded v c b a ≡ held_in new.blocks g.loaded w c b a
 
 -- A netlist in order shows of itself what it shows, of any nodes that it has.
 abbrev pub ItselfLaw : Type 0

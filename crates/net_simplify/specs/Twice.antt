@@ -14,4 +14,6 @@ pub record IsFoldedTwice (old new : Net) (keep place : List ℕ) : Type 0 where
   pub on : ℕ → ℕ
   pub first : IsFolded old middle (λ _. true) to
   pub second : IsFolded middle new used on
-  pub kept : (i : ℕ) → i < length keep → (used (to (slice_index keep i)) ≡ true) × (to (slice_index keep i) < length middle.nodes) × (slice_index place i ≡ on (to (slice_index keep i)))
+  pub kept : (i : ℕ) → i < length keep
+      → (used (to (slice_index keep i)) ≡ true) × (to (slice_index keep i) < length middle.nodes)
+      × (slice_index place i ≡ on (to (slice_index keep i)))

@@ -68,7 +68,8 @@ pub record IsPlaced (whole : WholeNet) (net : Net) : Type 0 where
   pub ordered : AreOrdered whole.net.nodes whole.net.blocks
   pub own_ordered : AreOrdered net.nodes net.blocks
   pub inside : All (λ k. k < length whole.net.nodes) whole.kept.items
-  pub at : (i : ℕ) → i < length whole.kept.items → slice_index whole.places.items (slice_index whole.kept.items i) ≡ slice_index place i
+  pub at : (i : ℕ) → i < length whole.kept.items
+      → slice_index whole.places.items (slice_index whole.kept.items i) ≡ slice_index place i
   pub pins : (k : ℕ) → slice_get whole.net.nodes k ≡ Some Pin → Contains whole.kept.items k
 
 -- what is stored at the place of each node

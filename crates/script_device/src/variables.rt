@@ -115,7 +115,8 @@ pub fn find_variable<'a>(
     text: &[u8],
 ) -> Option<Variable<'a>>
     ensures { (net : Net) (calls : List Call) → AreSizes sizes.now net → MatchOption result
-        ((source : Source) → Denotes (Chip (loaded_chip net directory.now) calls) text.now source → ⊥)
+        ((source : Source) →
+        Denotes (Chip (loaded_chip net directory.now) calls) text.now source → ⊥)
         (λ found. Denotes (Chip (loaded_chip net directory.now) calls) text.now (source_of found)) }
 {
     if text == b"time".as_slice() {

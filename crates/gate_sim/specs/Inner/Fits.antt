@@ -15,7 +15,9 @@ pub record SimFits (net : Net) (start values : List Bool) (writes : List (Option
   pub are_writes : AreWrites net.blocks writes
   pub has_words : HasWords net.blocks memory
   pub written_long : length written ≡ length net.blocks
-  pub settled : whole ≡ false → AreSettled net.nodes net.blocks (value_in written) (word_at memory) (value_in values)
-  pub passed : fresh ≡ true → IsRow net.nodes net.blocks (value_in start) (word_at memory) (value_in values)
+  pub settled : whole ≡ false
+      → AreSettled net.nodes net.blocks (value_in written) (word_at memory) (value_in values)
+  pub passed : fresh ≡ true
+      → IsRow net.nodes net.blocks (value_in start) (word_at memory) (value_in values)
   pub begun : fresh ≡ true → whole ≡ false
   pub unwritten : fresh ≡ true → (b : ℕ) → value_in written b ≡ false

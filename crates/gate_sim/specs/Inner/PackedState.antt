@@ -32,7 +32,10 @@ pub record PackedFits (net : Net) (ops : List Op) (lanes : List ℕ) (places : L
   pub readers : is_small ≡ false → AreReaders ops takes spans list always
   pub marks_long : length marks ≡ pieces_in (length ops) + pieces_in (length takes)
   pub due_long : length due ≡ pieces_in (length takes)
-  pub idle : is_small ≡ false → AreIdle (length net.nodes) lanes (value_in (bits_of places start)) ops slots marks
+  pub idle : is_small ≡ false
+      → AreIdle (length net.nodes) lanes (value_in (bits_of places start)) ops slots marks
   pub still : is_small ≡ false → AreStill slots
-  pub given : AreGiven net.nodes places takes (take_mark (pieces_in (length ops)) marks) (λ k i. value_in (values_of places slots) i) fixed
-  pub taken : AreGiven net.nodes places takes (λ t. value_in due (piece_of t)) (λ k i. word_lane fixed (place_of places k)) start
+  pub given : AreGiven net.nodes places takes (take_mark (pieces_in (length ops)) marks)
+      (λ k i. value_in (values_of places slots) i) fixed
+  pub taken : AreGiven net.nodes places takes (λ t. value_in due (piece_of t))
+      (λ k i. word_lane fixed (place_of places k)) start

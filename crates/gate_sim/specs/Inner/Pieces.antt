@@ -41,14 +41,16 @@ IsToldOp spans list always m (Gates a b mask) = IsReader spans list a m × IsRea
 IsToldOp spans list always m (Lone a b mask_a mask_b) = IsReader spans list a.slot m × IsReader spans list b.slot m
 IsToldOp spans list always m (Spread a) = IsReader spans list a.slot m
 IsToldOp spans list always m (Move below a up down mask) = IsReader spans list below m × IsReader spans list a m
-IsToldOp spans list always m (Read b mask) = value_in always m ≡ true
+IsToldOp spans list always m (Read b mask address) = value_in always m ≡ true
 
 -- each piece of operations is told of what it reads, and so is each piece of takes, which come after those
 pub record AreReaders (ops : List Op) (takes : List Take) (spans : List Span) (list : List ℕ) (always : List Bool) : Type 0 where
   pub spans_long : length spans ≡ length ops
   pub always_long : length always ≡ pieces_in (length ops)
-  pub each : (q : ℕ) (op : Op) → slice_get ops q ≡ Some op → IsToldOp spans list always (piece_of q) op
-  pub takes_told : (t : ℕ) (take : Take) → slice_get takes t ≡ Some take → IsReader spans list take.source (pieces_in (length ops) + piece_of t)
+  pub each : (q : ℕ) (op : Op) → slice_get ops q ≡ Some op
+      → IsToldOp spans list always (piece_of q) op
+  pub takes_told : (t : ℕ) (take : Take) → slice_get takes t ≡ Some take
+      → IsReader spans list take.source (pieces_in (length ops) + piece_of t)
 
 -- an operation gives what its slot has: no slot that it reads changed, and pins and flip-flops have there what they have now
 abbrev pub IsIdleOp : ℕ → List ℕ → (ℕ → Bool) → List Slot → ℕ → Op → Type 0
@@ -58,12 +60,13 @@ IsIdleOp n lanes start slots q (Gates a b mask) = ((slot_at slots a).change ≡ 
 IsIdleOp n lanes start slots q (Lone a b mask_a mask_b) = ((slot_at slots a.slot).change ≡ 0) × ((slot_at slots b.slot).change ≡ 0)
 IsIdleOp n lanes start slots q (Spread a) = (slot_at slots a.slot).change ≡ 0
 IsIdleOp n lanes start slots q (Move below a up down mask) = ((slot_at slots below).change ≡ 0) × ((slot_at slots a).change ≡ 0)
-IsIdleOp n lanes start slots q (Read b mask) = ⊥
+IsIdleOp n lanes start slots q (Read b mask address) = ⊥
 
 -- in pieces whose mark is off no slot changed, and no slot that they read
 pub record AreIdle (n : ℕ) (lanes : List ℕ) (start : ℕ → Bool) (ops : List Op) (slots : List Slot) (marks : List Bool) : Type 0 where
   pub still : (q : ℕ) → value_in marks (piece_of q) ≡ false → (slot_at slots q).change ≡ 0
-  pub each : (q : ℕ) (op : Op) → slice_get ops q ≡ Some op → value_in marks (piece_of q) ≡ false → IsIdleOp n lanes start slots q op
+  pub each : (q : ℕ) (op : Op) → slice_get ops q ≡ Some op → value_in marks (piece_of q) ≡ false
+      → IsIdleOp n lanes start slots q op
 
 -- nor did a slot from which takes take whose mark is off: the marks of takes stand from place m on
 abbrev pub AreIdleTakes : ℕ → List Take → List Slot → List Bool → Type 0

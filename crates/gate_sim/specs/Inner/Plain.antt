@@ -1,5 +1,5 @@
 -- The plain plan: a slot for each node, in the order of the nodes.
-use Rattle.std.specs.Prelude.{◌≡◌, ℕ, ◌*◌, ◌%◌, ◌^◌, ◌<◌, List, length, Some, slice_get, slice_index_or, nat_eq, if◌then◌else◌}
+use Rattle.std.specs.Prelude.{◌≡◌, ℕ, ◌*◌, ◌%◌, ◌^◌, ◌<◌, List, length, Some, None, slice_get, slice_index_or, nat_eq, if◌then◌else◌}
 use Rattle.netlist.specs.declared.node.Node.{Node}
 use Rattle.netlist.specs.declared.node.Node.TheVariants.{Pin, Nand, Flip, Word, Zero}
 use Rattle.gate_sim.specs.declared.plan.Lane.{Lane}
@@ -33,7 +33,7 @@ abbrev pub placed_op : List Lane → Node → Op
 placed_op places Pin = Held
 placed_op places (Nand i j) = lone_of (place_of places i) (place_of places j)
 placed_op places (Flip i) = Held
-placed_op places (Word b bit) = Read b (1 * 2 ^ bit % 2 ^ 16)
+placed_op places (Word b bit) = Read b (1 * 2 ^ bit % 2 ^ 16) None
 placed_op places Zero = Zeros
 
 -- the operation of a node in the plain plan
@@ -41,7 +41,7 @@ abbrev pub plain_op : List Node → Node → Op
 plain_op nodes Pin = Held
 plain_op nodes (Nand i j) = lone_of (plain_place nodes i) (plain_place nodes j)
 plain_op nodes (Flip i) = Held
-plain_op nodes (Word b bit) = Read b (1 * 2 ^ bit % 2 ^ 16)
+plain_op nodes (Word b bit) = Read b (1 * 2 ^ bit % 2 ^ 16) None
 plain_op nodes Zero = Zeros
 
 -- what node k takes, where it is a flip-flop
@@ -58,7 +58,10 @@ pub record IsPlain (nodes : List Node) (n : ℕ) (ops : List Op) (lanes : List �
   pub lanes_long : length lanes ≡ 16 * n
   pub places_long : length places ≡ n
   pub takes_long : length takes ≡ n
-  pub op : (k : ℕ) (node : Node) → k < n → slice_get nodes k ≡ Some node → slice_get ops k ≡ Some (plain_op nodes node)
-  pub lane : (k l : ℕ) (node : Node) → k < n → l < 16 → slice_get nodes k ≡ Some node → node_at lanes k l ≡ plain_node k node l
+  pub op : (k : ℕ) (node : Node) → k < n → slice_get nodes k ≡ Some node
+      → slice_get ops k ≡ Some (plain_op nodes node)
+  pub lane : (k l : ℕ) (node : Node) → k < n → l < 16 → slice_get nodes k ≡ Some node
+      → node_at lanes k l ≡ plain_node k node l
   pub place : (k : ℕ) → k < n → place_of places k ≡ plain_place nodes k
-  pub take : (k : ℕ) (node : Node) → k < n → slice_get nodes k ≡ Some node → slice_get takes k ≡ Some (plain_take nodes k node)
+  pub take : (k : ℕ) (node : Node) → k < n → slice_get nodes k ≡ Some node
+      → slice_get takes k ≡ Some (plain_take nodes k node)

@@ -1,5 +1,5 @@
 -- A plan: where the values of nodes stand, and the operations that give them, one for each slot of sixteen lanes.
-use Rattle.std.specs.Prelude.{◌≡◌, ℕ, ◌+◌, ◌-◌, ◌*◌, ◌%◌, ◌<◌, ◌≤◌, ◌⊎◌, ◌^◌, true, false, List, length, Some, slice_get, slice_index, slice_index_or, nat_lt, if◌then◌else◌}
+use Rattle.std.specs.Prelude.{◌≡◌, ℕ, ◌+◌, ◌-◌, ◌*◌, ◌%◌, ◌<◌, ◌≤◌, ◌⊎◌, ◌^◌, true, false, List, length, Option, Some, MatchOption, slice_get, slice_index, slice_index_or, nat_lt, if◌then◌else◌}
 use Rattle.std.specs.List.{All}
 use Rattle.word16.specs.Words.{has_bit}
 use Rattle.netlist.specs.declared.node.Node.{Node}
@@ -76,7 +76,8 @@ ArePair x y i j = ((x ≡ i) × (y ≡ j)) ⊎ ((x ≡ j) × (y ≡ i))
 pub record IsPackedGate (nodes : List Node) (lanes : List ℕ) (places : List Lane) (q l a b : ℕ) : Type 0 where
   pub inside : node_at lanes q l < length nodes
   pub placed : StandsAt places (node_at lanes q l) q l
-  pub gate : IsSuch nodes (node_at lanes q l) (IsGate (ArePair (node_at lanes a l) (node_at lanes b l)))
+  pub gate : IsSuch nodes (node_at lanes q l)
+      (IsGate (ArePair (node_at lanes a l) (node_at lanes b l)))
 
 pub record IsGatesLane (nodes : List Node) (lanes : List ℕ) (places : List Lane) (q l a b mask : ℕ) : Type 0 where
   pub earlier_a : a < q
@@ -89,7 +90,8 @@ pub record IsLoneLane (nodes : List Node) (lanes : List ℕ) (places : List Lane
   pub inside : node_at lanes q l < length nodes
   pub placed : StandsAt places (node_at lanes q l) q 0
   pub first : node_at lanes q l ≡ node_at lanes q 0
-  pub gate : IsSuch nodes (node_at lanes q l) (IsGate (λ i j. IsEarlier lanes q a i × IsEarlier lanes q b j))
+  pub gate : IsSuch nodes (node_at lanes q l)
+      (IsGate (λ i j. IsEarlier lanes q a i × IsEarlier lanes q b j))
 
 -- the lane stands for a node that the other one stands for
 pub record IsSpreadLane (nodes : List Node) (lanes : List ℕ) (q l : ℕ) (a : Lane) : Type 0 where
@@ -103,8 +105,10 @@ pub record IsMoveLane (nodes : List Node) (lanes : List ℕ) (q l below a up dow
   pub earlier_a : a < q
   pub short_up : up < 16
   pub short_down : down < 16
-  pub moved : has_bit mask l ≡ true → (up ≤ l + down) × (l + down < 16) × (node_at lanes a (l + down - up) ≡ node_at lanes q l)
-  pub kept : has_bit mask l ≡ false → node_at lanes q l < length nodes → node_at lanes below l ≡ node_at lanes q l
+  pub moved : has_bit mask l ≡ true
+      → (up ≤ l + down) × (l + down < 16) × (node_at lanes a (l + down - up) ≡ node_at lanes q l)
+  pub kept : has_bit mask l ≡ false → node_at lanes q l < length nodes
+      → node_at lanes below l ≡ node_at lanes q l
 
 -- node i has its place in an earlier slot than q
 pub record IsPlacedBefore (n : ℕ) (places : List Lane) (q i : ℕ) : Type 0 where
@@ -118,8 +122,17 @@ pub record IsReadBit (nodes : List Node) (blocks : List Block) (lanes : List ℕ
   pub bit : IsSuch nodes (node_at lanes q l) (λ node. node ≡ Word b l)
   pub address : All (IsPlacedBefore (length nodes) places q) (address_in (slice_get blocks b))
 
-pub record IsReadLane (nodes : List Node) (blocks : List Block) (lanes : List ℕ) (places : List Lane) (q l b mask : ℕ) : Type 0 where
+-- bit i of an address stands i lanes on from the first one, in a slot before q
+pub record AreSideBySide (places : List Lane) (q : ℕ) (nodes : List ℕ) (first : Lane) : Type 0 where
+  pub earlier : first.slot < q
+  pub inside : first.at < 16
+  pub fits : first.at + length nodes ≤ 16
+  pub lanes : (i : ℕ) → i < length nodes → StandsAt places (slice_index nodes i) first.slot (first.at + i)
+
+-- lane l of slot q stands for bit l of a block's word where the mask has its bit; where a first lane is given, the address stands side by side from there on
+pub record IsReadLane (nodes : List Node) (blocks : List Block) (lanes : List ℕ) (places : List Lane) (q l b mask : ℕ) (address : Option Lane) : Type 0 where
   pub block : b < length blocks
+  pub side : MatchOption address (Unit {0}) (AreSideBySide places q (address_in (slice_get blocks b)))
   pub read : has_bit mask l ≡ true → IsReadBit nodes blocks lanes places q l b
   pub bare : has_bit mask l ≡ false → length nodes ≤ node_at lanes q l
 
@@ -131,7 +144,7 @@ IsLane nodes blocks lanes places q l (Gates a b mask) = IsGatesLane nodes lanes 
 IsLane nodes blocks lanes places q l (Lone a b mask_a mask_b) = IsLoneLane nodes lanes places q l a b × (mask_a ≡ lane_mask a.at) × (mask_b ≡ lane_mask b.at)
 IsLane nodes blocks lanes places q l (Spread a) = IsSpreadLane nodes lanes q l a
 IsLane nodes blocks lanes places q l (Move below a up down mask) = IsMoveLane nodes lanes q l below a up down mask
-IsLane nodes blocks lanes places q l (Read b mask) = IsReadLane nodes blocks lanes places q l b mask
+IsLane nodes blocks lanes places q l (Read b mask address) = IsReadLane nodes blocks lanes places q l b mask address
 
 -- the place of node k stands for it
 pub record IsPlaced (n : ℕ) (lanes : List ℕ) (places : List Lane) (k : ℕ) : Type 0 where
@@ -144,5 +157,6 @@ pub record IsPlan (nodes : List Node) (blocks : List Block) (ops : List Op) (lan
   pub few : length ops < 2 ^ 32
   pub lanes_long : length lanes ≡ 16 * length ops
   pub places_long : length places ≡ length nodes
-  pub each : (q : ℕ) (op : Op) → slice_get ops q ≡ Some op → (l : ℕ) → l < 16 → IsLane nodes blocks lanes places q l op
+  pub each : (q : ℕ) (op : Op) → slice_get ops q ≡ Some op → (l : ℕ) → l < 16
+      → IsLane nodes blocks lanes places q l op
   pub placed : (k : ℕ) → k < length nodes → IsPlaced (length ops) lanes places k

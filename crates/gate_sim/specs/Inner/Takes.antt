@@ -12,7 +12,8 @@ pub record IsTakeLane (nodes : List Node) (lanes : List ℕ) (places : List Lane
   pub inside : node_at lanes take.slot l < length nodes
   pub placed : StandsAt places (node_at lanes take.slot l) take.slot l
   pub high : l + take.down < 16
-  pub flip : IsSuch nodes (node_at lanes take.slot l) (IsFlip (λ i. node_at lanes take.source (l + take.down) ≡ i))
+  pub flip : IsSuch nodes (node_at lanes take.slot l)
+      (IsFlip (λ i. node_at lanes take.source (l + take.down) ≡ i))
 
 pub record IsTake (nodes : List Node) (n : ℕ) (lanes : List ℕ) (places : List Lane) (take : Take) : Type 0 where
   pub slot : take.slot < n
@@ -26,5 +27,6 @@ IsServed places takes k = (j : ℕ) × (take : Take) × (slice_get takes j ≡ S
 
 -- each of these is right, and each flip-flop is served
 pub record AreTakes (nodes : List Node) (n : ℕ) (lanes : List ℕ) (places : List Lane) (takes : List Take) : Type 0 where
-  pub each : (j : ℕ) (take : Take) → slice_get takes j ≡ Some take → IsTake nodes n lanes places take
+  pub each : (j : ℕ) (take : Take) → slice_get takes j ≡ Some take
+      → IsTake nodes n lanes places take
   pub all : (k i : ℕ) → slice_get nodes k ≡ Some (Flip i) → IsServed places takes k

@@ -52,6 +52,16 @@ pass_read-requires-clause-address g c =
     let right = subst (λ o. (l : ℕ) → l < 16 → IsLane c.args.nodes.now c.args.blocks.now c.args.lanes.now c.args.places.now c.args.q l o) c.in-Read.is c.requires.right in
     read_address c.args.nodes.now c.args.blocks.now (length c.args.places.now) c.in-Read.block c.requires.ordered c.requires.places (right 0 (omega arith)).block
 
+pub pass_read-requires-clause-block : goal.pass_read-requires-clause-block
+pass_read-requires-clause-block g c =
+    let right = subst (λ o. (l : ℕ) → l < 16 → IsLane c.args.nodes.now c.args.blocks.now c.args.lanes.now c.args.places.now c.args.q l o) c.in-Read.is c.requires.right in
+    (right 0 (omega arith)).block
+
+pub pass_read-requires-clause-side : goal.pass_read-requires-clause-side
+pass_read-requires-clause-side g c =
+    let right = subst (λ o. (l : ℕ) → l < 16 → IsLane c.args.nodes.now c.args.blocks.now c.args.lanes.now c.args.places.now c.args.q l o) c.in-Read.is c.requires.right in
+    (right 0 (omega arith)).side
+
 pub returns-in-Held-clause-passes : goal.returns-in-Held-clause-passes
 returns-in-Held-clause-passes g c was row ev far =
     let here = c.slot_in-here.ensures in
@@ -104,6 +114,6 @@ pub returns-in-Read-clause-passes : goal.returns-in-Read-clause-passes
 returns-in-Read-clause-passes g c was row ev far =
     let here = c.slot_in-here.ensures in
     let right = subst (λ o. (l : ℕ) → l < 16 → IsLane c.args.nodes.now c.args.blocks.now c.args.lanes.now c.args.places.now c.args.q l o) c.in-Read.is c.requires.right in (
-      read_via c.args.nodes.now c.args.blocks.now c.args.lanes.now c.args.places.now (value_in (bits_of c.args.places.now c.args.start.now)) (word_at c.args.memory.now) (value_in c.args.written.now) c.args.whole was row c.args.q c.args.slots.now c.requires.ordered ev far c.requires.place c.requires.placed c.in-Read.block c.in-Read.mask right c.pass_read.result c.slot_in-here.result here c.pass_read.ensures.value c.pass_read.ensures.change,
-      read_counted c.args.nodes.now c.args.blocks.now c.args.lanes.now c.args.places.now (value_in (bits_of c.args.places.now c.args.start.now)) (word_at c.args.memory.now) (value_in c.args.written.now) c.args.whole was row c.args.q c.args.slots.now c.requires.ordered ev far c.requires.place c.requires.placed c.in-Read.block c.in-Read.mask _ _ right c.pass_read.ensures.counted,
+      read_via c.args.nodes.now c.args.blocks.now c.args.lanes.now c.args.places.now (value_in (bits_of c.args.places.now c.args.start.now)) (word_at c.args.memory.now) (value_in c.args.written.now) c.args.whole was row c.args.q c.args.slots.now c.requires.ordered ev far c.requires.place c.requires.placed c.in-Read.block c.in-Read.mask c.in-Read.address right c.pass_read.result c.slot_in-here.result here c.pass_read.ensures.value c.pass_read.ensures.change,
+      read_counted c.args.nodes.now c.args.blocks.now c.args.lanes.now c.args.places.now (value_in (bits_of c.args.places.now c.args.start.now)) (word_at c.args.memory.now) (value_in c.args.written.now) c.args.whole was row c.args.q c.args.slots.now c.requires.ordered ev far c.requires.place c.requires.placed c.in-Read.block c.in-Read.mask _ _ c.in-Read.address right c.pass_read.ensures.counted,
     )

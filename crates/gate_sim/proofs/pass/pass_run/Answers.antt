@@ -1,4 +1,4 @@
-use Rattle.std.proofs.Common.{◌≡◌, ℕ, ◌<◌, length, arith, subst}
+use Rattle.std.proofs.Common.{◌≡◌, ℕ, ◌+◌, ◌<◌, length, arith, sym, subst}
 use Rattle.std.proofs.lemmas.Option.{slice_get-get_or}
 use Rattle.netlist.specs.Present.{value_in}
 use Rattle.netlist.specs.Words.{word_at}
@@ -16,17 +16,17 @@ loop-q-init g c = record {
 
 pub loop-q-preserved : goal.loop-q-preserved
 loop-q-preserved g c =
-    let more = c.pass_op-slot.ensures.more in
+    let more = c.put_op.ensures.more in
     record {
       more = omega arith;
-      passes = passes_more c.args.nodes.now c.args.blocks.now c.args.lanes.now c.args.places.now (value_in (bits_of c.args.places.now c.args.start.now)) (word_at c.args.memory.now) (value_in c.args.written.now) c.args.whole c.args.from c.loop-q.q c.args.slots.now c.loop-q.slots c.pass_op-slot.result c.args.steps.now c.loop-q.steps c.pass_op-slot.new.steps (omega arith) c.loop-q.invariant.passes c.pass_op-slot.ensures.passes;
+      passes = subst (λ s. Passes c.args.nodes.now c.args.blocks.now c.args.lanes.now c.args.places.now (value_in (bits_of c.args.places.now c.args.start.now)) (word_at c.args.memory.now) (value_in c.args.written.now) c.args.whole c.args.from (c.loop-q.q + 1) c.args.slots.now s c.args.steps.now c.put_op.new.steps) (sym c.put_op.ensures.put) (passes_more c.args.nodes.now c.args.blocks.now c.args.lanes.now c.args.places.now (value_in (bits_of c.args.places.now c.args.start.now)) (word_at c.args.memory.now) (value_in c.args.written.now) c.args.whole c.args.from c.loop-q.q c.args.slots.now c.loop-q.slots c.put_op.result c.args.steps.now c.loop-q.steps c.put_op.new.steps (omega arith) c.loop-q.invariant.passes c.put_op.ensures.passes);
     }
 
-pub pass_op-slot-requires-clause-right : goal.pass_op-slot-requires-clause-right
-pass_op-slot-requires-clause-right g c = c.requires.plan.each c.loop-q.q _ (slice_get-get_or c.args.ops.now c.loop-q.q Held (omega arith))
+pub put_op-requires-clause-right : goal.put_op-requires-clause-right
+put_op-requires-clause-right g c = c.requires.plan.each c.loop-q.q _ (slice_get-get_or c.args.ops.now c.loop-q.q Held (omega arith))
 
-pub pass_op-slot-requires-clause-placed : goal.pass_op-slot-requires-clause-placed
-pass_op-slot-requires-clause-placed g c =
+pub put_op-requires-clause-placed : goal.put_op-requires-clause-placed
+put_op-requires-clause-placed g c =
     let long : length c.args.ops.now ≡ length c.loop-q.slots = omega arith in
     subst (λ m. (k : ℕ) → k < length c.args.nodes.now → IsPlaced m c.args.lanes.now c.args.places.now k) long c.requires.plan.placed
 
