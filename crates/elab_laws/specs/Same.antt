@@ -58,8 +58,11 @@ pub data SameCalls (top : Entry) (e e' : Elab) : List Call → List Call → Typ
 -- stand in blocks, after these calls and after others that come to no later cycle.
 pub record ShowSame (top : Entry) (e e' : Elab) (calls calls' : List Call) (v v' : ℕ → ℕ → Bool) : Type 0 where
   pub pins : (k node node' c : ℕ) → SamePin e e' k node node' → c ≤ cycle_of calls → v node c ≡ v' node' c
-  pub outs : (k node node' c : ℕ) → SameOut e e' k node node' → c ≤ cycle_of calls → v node c ≡ v' node' c
-  pub words : (later later' : List Call) → SameCalls top e e' later later' → cycle_of later ≤ cycle_of calls → (b b' a : ℕ) → SameBlock e e' b b' → words_of e.net.blocks v later b a ≡ words_of e'.net.blocks v' later' b' a
+  pub outs : (k node node' c : ℕ) → SameOut e e' k node node' → c ≤ cycle_of calls
+      → v node c ≡ v' node' c
+  pub words : (later later' : List Call) → SameCalls top e e' later later'
+      → cycle_of later ≤ cycle_of calls → (b b' a : ℕ) → SameBlock e e' b b'
+      → words_of e.net.blocks v later b a ≡ words_of e'.net.blocks v' later' b' a
 
 -- Two elaborated netlists of a chip without faults, of which the first is in order, show the same after the same calls,
 -- whatever values are theirs. So what is seen of a chip does not hang on which netlist of it runs.

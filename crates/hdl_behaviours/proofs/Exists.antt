@@ -20,7 +20,7 @@ use Rattle.hdl_plans.proofs.Walks.{at_part}
 use Rattle.hdl_plans.proofs.Nesting.{faultless_sound}
 use Rattle.hdl_nodes.proofs.Numbers.{number_same, number_below, number_word, held_word}
 use Rattle.hdl_behaviours.specs.Existence.{AreWords, HasBehaviour, ExistLaw}
-use Rattle.hdl_behaviours.specs.Inner.Feeding.{backwards, Supply, by_driver, by_origin, by_parent, outside, inside, supply_in, supply, end_bit, value_by, swept, tree_bits}
+use Rattle.hdl_behaviours.specs.Inner.Feeding.{backwards, Supply, by_driver, by_origin, by_parent, outside, inside, supply_in, supply, end_bit, value_by, swept_value, tree_bits}
 use Rattle.hdl_behaviours.proofs.Paths.{backwards-push, backwards-twice, chip_below}
 use Rattle.hdl_behaviours.proofs.Sweeps.{stable}
 
@@ -63,17 +63,17 @@ module _ (chips : Chips) (top : Entry) (d : ℕ) (sound : IsSound d chips (plan_
   -- the values of the cycles before
   past_of : ℕ → List ℕ → Histories
   past_of zero r name bit e = false
-  past_of (suc c) r name bit e = cond (nat_eq e c) (swept chips top world c (past_of c) (coming c) enough r name bit) (past_of c r name bit e)
+  past_of (suc c) r name bit e = cond (nat_eq e c) (swept_value chips top world c (past_of c) (coming c) enough r name bit) (past_of c r name bit e)
 
   abbrev value : List ℕ → Histories
-  value r name bit c = swept chips top world c (past_of c) (coming c) enough r name bit
+  value r name bit c = swept_value chips top world c (past_of c) (coming c) enough r name bit
 
   past_is : (c : ℕ) (r name : List ℕ) (bit e : ℕ) → e < c → past_of c r name bit e ≡ value r name bit e
   unfolding past_of
   past_is zero r name bit e lt = absurd (omega arith)
   past_is (suc c) r name bit e lt = by (nat_eq e c) refl (λ less. past_is c r name bit e less)
     where
-      by : (t : Bool) → nat_eq e c ≡ t → (e < c → past_of c r name bit e ≡ value r name bit e) → cond t (swept chips top world c (past_of c) (coming c) enough r name bit) (past_of c r name bit e) ≡ value r name bit e
+      by : (t : Bool) → nat_eq e c ≡ t → (e < c → past_of c r name bit e ≡ value r name bit e) → cond t (swept_value chips top world c (past_of c) (coming c) enough r name bit) (past_of c r name bit e) ≡ value r name bit e
       by true q go = let same : c ≡ e = sym ((Decides-eqb e c).0 q) in ap (value r name bit) same
       by false q go = go (let ne : e ≡ c → ⊥ = λ p. (let f : true ≡ false = sym ((Decides-eqb e c).1 p) ∙ q in absurd cc) in omega arith)
 

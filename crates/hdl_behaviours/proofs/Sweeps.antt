@@ -16,7 +16,7 @@ use Rattle.hdl_plans.specs.Loops.{BitAt, bit_at, IsJoint, outside_bit, inside_bi
 use Rattle.hdl_plans.specs.Ways.{Way}
 use Rattle.hdl_plans.proofs.Walks.{one_step, join_ways}
 use Rattle.hdl_nodes.proofs.Numbers.{number_same}
-use Rattle.hdl_behaviours.specs.Inner.Feeding.{backwards, Supply, Given, Copied, Worked, by_driver, inside, by_origin, by_parent, outside, supply_in, supply, end_bit, value_by, swept, tree_bits, Among}
+use Rattle.hdl_behaviours.specs.Inner.Feeding.{backwards, Supply, Given, Copied, Worked, by_driver, inside, by_origin, by_parent, outside, supply_in, supply, end_bit, value_by, swept_value, tree_bits, Among}
 use Rattle.hdl_behaviours.proofs.Joints.{Joint, driver_joint, origin_joint}
 use Rattle.hdl_behaviours.proofs.Paths.{joint_among}
 use Rattle.hdl_behaviours.proofs.Pigeons.{AllAmong, Linked, no_long_way}
@@ -169,11 +169,11 @@ module _ (chips : Chips) (top : Entry) (d : ℕ) (sound : IsSound d chips (plan_
 
   module _ (world : World) (c : ℕ) (past : List ℕ → Histories) where
     abbrev now : ℕ → List ℕ → Wires Bool
-    now k = swept chips top world c past input k
+    now k = swept_value chips top world c past input k
 
     -- the bit changes in sweep k
     abbrev Changes : ℕ → List ℕ → List ℕ → ℕ → Type 0
-    Changes k r name bit = swept chips top world c past input (suc k) r name bit ≡ swept chips top world c past input k r name bit → ⊥
+    Changes k r name bit = swept_value chips top world c past input (suc k) r name bit ≡ swept_value chips top world c past input k r name bit → ⊥
 
     record Visit (m : ℕ) (r name : List ℕ) (bit : ℕ) : Type 0 where
       q : List ℕ
@@ -231,7 +231,7 @@ module _ (chips : Chips) (top : Entry) (d : ℕ) (sound : IsSound d chips (plan_
         record { over = bit_of v.q v.n v.k ∷ rest.over; number = ap suc rest.number; all = (v.among, rest.all); linked = (v.way, rest.linked) }
 
     pub stable : ((nets : List (List ℕ)) → IsLoop chips top nets → ⊥) → (r name : List ℕ) (bit : ℕ) →
-        swept chips top world c past input (suc (2 * suc (length (tree_bits d chips top [])))) r name bit ≡ swept chips top world c past input (2 * suc (length (tree_bits d chips top []))) r name bit
+        swept_value chips top world c past input (suc (2 * suc (length (tree_bits d chips top [])))) r name bit ≡ swept_value chips top world c past input (2 * suc (length (tree_bits d chips top []))) r name bit
     stable no_loop r name bit = by (bool_same (now (suc (2 * suc (length all_bits))) r name bit) (now (2 * suc (length all_bits)) r name bit))
       where
         by : (now (suc (2 * suc (length all_bits))) r name bit ≡ now (2 * suc (length all_bits)) r name bit) ⊎ Changes (2 * suc (length all_bits)) r name bit → now (suc (2 * suc (length all_bits))) r name bit ≡ now (2 * suc (length all_bits)) r name bit

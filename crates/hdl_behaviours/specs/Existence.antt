@@ -17,7 +17,8 @@ pub record AreWords (world : World) : Type 0 where
 pub record HasBehaviour (world : World) (chips : Chips) (top : Entry) (n : ℕ) (input : Histories) : Type 0 where
   pub wires : List ℕ → Histories
   pub behaves : IsBehaviour world chips top n wires
-  pub hears : (name : List ℕ) (bit c : ℕ) → HasBit top.chip.inputs name bit → wires [] name bit c ≡ input name bit c
+  pub hears : (name : List ℕ) (bit c : ℕ) → HasBit top.chip.inputs name bit
+      → wires [] name bit c ≡ input name bit c
 
 -- A chip of the library without faults and without a loop has a behaviour, whatever comes in.
 abbrev pub ExistLaw : Type 0

@@ -15,7 +15,8 @@ CleanLaw = (chips : Chips) → AreClean chips → (i : ℕ) (entry : Entry) → 
 -- the chip has no loop, and its outputs depend on its inputs at most as the pairs say
 pub record IsLoopless (chips : Chips) (pairs : List ℕ → Pairs) (entry : Entry) : Type 0 where
   pub no_loop : (nets : List (List ℕ)) → IsLoop chips entry nets → ⊥
-  pub depends : (input : List ℕ) (bit : ℕ) (output : List ℕ) (out : ℕ) → Depends chips entry input bit output out → is_pair input output (pairs entry.name) ≡ true
+  pub depends : (input : List ℕ) (bit : ℕ) (output : List ℕ) (out : ℕ)
+      → Depends chips entry input bit output out → is_pair input output (pairs entry.name) ≡ true
 
 -- Where each chip of a library is clean and has levels, none has a loop.
 abbrev pub LevelLaw : Type 0

@@ -20,7 +20,8 @@ abbrev pub each_kind : Chips
 each_kind = record { entries = nand ∷ dff ∷ keyboard ∷ rom ∷ ram8 ∷ []; memories = Blocks }
 
 pub record RowsLaw : Type 0 where
-  pub kinds : map (end_of Blocks) each_kind.entries ≡ Some ends.Nand ∷ Some ends.Dff ∷ Some ends.Keyboard ∷ Some ends.Rom ∷ Some (ends.Block 3) ∷ []
+  pub kinds : map (end_of Blocks) each_kind.entries ≡ Some ends.Nand ∷ Some ends.Dff
+      ∷ Some ends.Keyboard ∷ Some ends.Rom ∷ Some (ends.Block 3) ∷ []
   pub has_ends : HasEnds each_kind
   pub are_wide : AreWide each_kind
   pub out_alone : HaveOutAlone each_kind

@@ -77,8 +77,10 @@ pub record IsFirstFault (chips : Chips) (outer : List (List ℕ)) (entry : Entry
 
 -- A chip has at most one first fault, and none where nothing is wrong.
 pub record OneFault (chips : Chips) (outer : List (List ℕ)) (entry : Entry) : Type 0 where
-  pub one : (f g : NamedFault) → IsFirstFault chips outer entry f → IsFirstFault chips outer entry g → f ≡ g
-  pub not_both : (f : NamedFault) → IsFirstFault chips outer entry f → IsFaultless chips outer entry → ⊥
+  pub one : (f g : NamedFault) → IsFirstFault chips outer entry f
+      → IsFirstFault chips outer entry g → f ≡ g
+  pub not_both : (f : NamedFault) → IsFirstFault chips outer entry f
+      → IsFaultless chips outer entry → ⊥
 
 abbrev pub OrderLaw : Type 0
 OrderLaw = (chips : Chips) (outer : List (List ℕ)) (entry : Entry) → OneFault chips outer entry

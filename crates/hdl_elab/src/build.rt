@@ -29,5 +29,5 @@ pub fn build_net(
     ensures { IfOk result (λ e. TopIsElaborated (chips_in library.now.entries memories) top.now e) }
 {
     let flat = flatten(alloc, library, top, memories)?;
-    put_in_net(alloc, &flat)
+    put_in_net(alloc, flat)
 }

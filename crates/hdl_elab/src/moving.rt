@@ -2,9 +2,9 @@
 
 ghost use Rattle.std.specs.Prelude.{◌≡◌, ◌<◌, IfOk, length, map, slice_index};
 ghost use Rattle.std.specs.List.{All};
-ghost use Rattle.hdl_elab.specs.Moved.{moved_pin, moved_part};
+ghost use Rattle.hdl_elab.specs.Moved.{moved_pin};
 
-use hdl_flatten::{PartAt, PinAt};
+use hdl_flatten::PinAt;
 use hdl_tree::List;
 use std::alloc::{AllocError, Global};
 
@@ -29,17 +29,6 @@ fn moved_pin_at(alloc: Global, pin: &PinAt, places: &[u32]) -> Result<PinAt, All
     })
 }
 
-fn moved_part_at(alloc: Global, part: &PartAt, places: &[u32]) -> Result<PartAt, AllocError>
-    requires { All (λ node. node < length places.now) part.now.outs }
-    ensures { IfOk result (λ p. p ≡ moved_part places.now part.now) }
-{
-    Ok(PartAt {
-        chip: part.chip.clone()?,
-        outs: moved_nodes(alloc, part.outs.as_slice(), places)?,
-        block: part.block,
-    })
-}
-
 /// The pins, with the places of their nodes.
 pub fn moved_pins(alloc: Global, pins: &[PinAt], places: &[u32]) -> Result<List<PinAt>, AllocError>
     requires { All (λ p. All (λ node. node < length places.now) p.nodes) pins.now }
@@ -48,22 +37,6 @@ pub fn moved_pins(alloc: Global, pins: &[PinAt], places: &[u32]) -> Result<List<
     let mut moved = Vec::new(alloc);
     for pin in pins {
         moved.push(moved_pin_at(alloc, pin, places)?)?;
-    }
-    Ok(List::of(moved))
-}
-
-/// The parts, with the places of their nodes.
-pub fn moved_parts(
-    alloc: Global,
-    parts: &[PartAt],
-    places: &[u32],
-) -> Result<List<PartAt>, AllocError>
-    requires { All (λ p. All (λ node. node < length places.now) p.outs) parts.now }
-    ensures { IfOk result (λ l. l ≡ map (moved_part places.now) parts.now) }
-{
-    let mut moved = Vec::new(alloc);
-    for part in parts {
-        moved.push(moved_part_at(alloc, part, places)?)?;
     }
     Ok(List::of(moved))
 }

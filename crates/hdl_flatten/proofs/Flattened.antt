@@ -393,7 +393,7 @@ its_block net n ends.Keyboard at bit b s lt h = let both : Some nodes.Pin ≡ So
 its_block net n ends.Rom at bit b s lt h = is_word n bit b 0 (sym (s.words bit lt) ∙ h)
 its_block net n (ends.Block bits) at bit b s lt h = is_word n bit b 0 (sym (s.words bit lt) ∙ h)
 
-module _ (chips : Chips) (name : List ℕ) (plans : List Plan) (place : ℕ) (plan : Plan) (t : Top chips name plans place plan) (inputs : List ℕ) (old new : Growing) (fed : inputs ≡ from_two (length plan.inputs.items)) (begun : old.nodes.items ≡ constants ++ pins (length inputs)) (no_blocks : old.blocks.items ≡ []) (no_parts : old.parts.items ≡ []) (put : IsPut chips plan inputs old new) where
+module _ (chips : Chips) (name : List ℕ) (plans : List Plan) (place : ℕ) (plan : Plan) (t : Top chips name plans place plan) (inputs : List ℕ) (old new : Growing) (fed : inputs ≡ from_two (length plan.inputs.items)) (begun : old.nodes.items ≡ constants ++ pins (length inputs)) (no_blocks : old.blocks.items ≡ []) (no_parts : old.parts ≡ []) (put : IsPut chips plan inputs old new) where
   abbrev net : Net
   net = record { nodes = new.nodes.items; blocks = new.blocks.items }
 
@@ -532,7 +532,7 @@ module _ (chips : Chips) (name : List ℕ) (plans : List Plan) (place : ℕ) (pl
     nodes = new.nodes.items;
     blocks = new.blocks.items;
     pins = map (pin_at (own_nodes (wires_of plan.wires) (length old.nodes.items) inputs)) plan.entry.now.chip.inputs ++ map (pin_at (own_nodes (wires_of plan.wires) (length old.nodes.items) inputs)) plan.entry.now.chip.outputs;
-    parts = new.parts.items;
+    parts = new.parts;
   })
   whole =
       let pins_are = sym (map_both (pin_at (own_nodes (wires_of plan.wires) (length old.nodes.items) inputs)) plan.entry.now.chip.inputs plan.entry.now.chip.outputs) ∙ pins_same (own_nodes (wires_of plan.wires) (length old.nodes.items) inputs) (put.at []) placed.own (plan.entry.now.chip.inputs ++ plan.entry.now.chip.outputs) in
@@ -575,8 +575,8 @@ flat_same a b e f g h =
     let four : record { nodes = b.nodes; blocks = b.blocks; pins = b.pins; parts = a.parts } ≡ b = ap (λ (l : List PartAt). record { nodes = b.nodes; blocks = b.blocks; pins = b.pins; parts = l }) h in
     one ∙ two ∙ three ∙ four
 
-pub flat_is : (chips : Chips) (name : List ℕ) (plans : List Plan) (place : ℕ) (plan : Plan) → Top chips name plans place plan → (inputs : List ℕ) (old new : Growing) → inputs ≡ from_two (length plan.inputs.items) → old.nodes.items ≡ constants ++ pins (length inputs) → old.blocks.items ≡ [] → old.parts.items ≡ [] →
-    ((x : Plan) → slice_get plans place ≡ Some x → IsPut chips x inputs old new) → (base : ℕ) → base ≡ length old.nodes.items → (flat : Flat) → flat.nodes ≡ new.nodes.items → flat.blocks ≡ new.blocks.items → flat.parts ≡ new.parts.items →
+pub flat_is : (chips : Chips) (name : List ℕ) (plans : List Plan) (place : ℕ) (plan : Plan) → Top chips name plans place plan → (inputs : List ℕ) (old new : Growing) → inputs ≡ from_two (length plan.inputs.items) → old.nodes.items ≡ constants ++ pins (length inputs) → old.blocks.items ≡ [] → old.parts ≡ [] →
+    ((x : Plan) → slice_get plans place ≡ Some x → IsPut chips x inputs old new) → (base : ℕ) → base ≡ length old.nodes.items → (flat : Flat) → flat.nodes ≡ new.nodes.items → flat.blocks ≡ new.blocks.items → flat.parts ≡ new.parts →
     flat.pins ≡ map (pin_at (own_nodes (wires_of plan.wires) base inputs)) plan.entry.now.chip.inputs ++ map (pin_at (own_nodes (wires_of plan.wires) base inputs)) plan.entry.now.chip.outputs → IsFlat chips plan.entry.now flat
 flat_is chips name plans place plan t inputs old new fed begun no_blocks no_parts put base base_is flat e f g h =
     let pins_are : flat.pins ≡ map (pin_at (own_nodes (wires_of plan.wires) (length old.nodes.items) inputs)) plan.entry.now.chip.inputs ++ map (pin_at (own_nodes (wires_of plan.wires) (length old.nodes.items) inputs)) plan.entry.now.chip.outputs =

@@ -19,3 +19,4 @@ pub mod Sized
 pub mod Flattened
 pub mod Visiting
 pub mod Pending
+pub mod Heads

@@ -79,7 +79,7 @@ module _ (chips : Chips) (plans : List Plan) (are : ArePlans chips plans) (pins 
   head flat u o q qs e = record { are = are; pins = pins; there = o.there; long = o.long; room = o.room; going = subst (λ (t : List PartPlan). IsGoing chips plans o.place o.plan u.inputs.items o.old flat t) e o.going }
 
   pub further : (flat mid new : Growing) (u v : Unfinished) (o : IsUnfinished chips plans flat u) (q : PartPlan) (qs : List PartPlan) (h : Head chips plans o.place o.plan u.inputs.items o.old flat q qs) (y : Plan) → y ≡ get_or plans q.place y → (nodes : List ℕ) (listed : PartAt) → v.base ≡ u.base → v.inputs.items ≡ u.inputs.items → v.rest.now ≡ qs →
-      nodes ≡ map (node_of (length o.old.nodes.items) u.inputs.items) q.origins.items → mid.nodes.items ≡ flat.nodes.items → mid.blocks.items ≡ flat.blocks.items → mid.parts.items ≡ flat.parts.items ++ listed ∷ [] →
+      nodes ≡ map (node_of (length o.old.nodes.items) u.inputs.items) q.origins.items → mid.nodes.items ≡ flat.nodes.items → mid.blocks.items ≡ flat.blocks.items → mid.parts ≡ flat.parts ++ listed ∷ [] →
       listed.chip ≡ y.entry.now.name → listed.outs ≡ map (node_of (length flat.nodes.items) nodes) y.outs.items → listed.block ≡ block_at y.end (length flat.blocks.items) → ((x : Plan) → slice_get plans q.place ≡ Some x → IsPut chips x nodes mid new) → IsUnfinished chips plans new v
   further flat mid new u v o q qs h y is nodes listed base inputs rest fed at_nodes at_blocks at_parts name outs block put = record {
     place = o.place;
@@ -95,7 +95,7 @@ module _ (chips : Chips) (plans : List Plan) (are : ArePlans chips plans) (pins 
   }
 
   pub carried : (flat mid new : Growing) (u v : Unfinished) (us : List Unfinished) (o : IsUnfinished chips plans flat u) (q : PartPlan) (qs : List PartPlan) (h : Head chips plans o.place o.plan u.inputs.items o.old flat q qs) (y : Plan) → y ≡ get_or plans q.place y → (nodes : List ℕ) (listed : PartAt) → v.base ≡ u.base → v.inputs.items ≡ u.inputs.items → v.rest.now ≡ qs →
-      nodes ≡ map (node_of (length o.old.nodes.items) u.inputs.items) q.origins.items → mid.nodes.items ≡ flat.nodes.items → mid.blocks.items ≡ flat.blocks.items → mid.parts.items ≡ flat.parts.items ++ listed ∷ [] →
+      nodes ≡ map (node_of (length o.old.nodes.items) u.inputs.items) q.origins.items → mid.nodes.items ≡ flat.nodes.items → mid.blocks.items ≡ flat.blocks.items → mid.parts ≡ flat.parts ++ listed ∷ [] →
       listed.chip ≡ y.entry.now.name → listed.outs ≡ map (node_of (length flat.nodes.items) nodes) y.outs.items → listed.block ≡ block_at y.end (length flat.blocks.items) → ((x : Growing) → IsPut chips o.plan u.inputs.items o.old x → IsPending chips plans task us x) → IsPut chips y nodes mid new → IsPending chips plans task (v ∷ us) new
   unfolding further
   carried flat mid new u v us o q qs h y is nodes listed base inputs rest fed at_nodes at_blocks at_parts name outs block goes_on put =

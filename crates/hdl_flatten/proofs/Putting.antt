@@ -179,7 +179,7 @@ all_put chips plans place plan inputs old now rest are pins none_is room e g =
           ∙ instances_counted chips here base inputs 0 (own_size chips plan.entry.now) (parts_of chips plan.entry.now) g.planned.inner plan.parts.items ss (stand here (longer_none now.nodes.items) (longer_none now.blocks.items)) (omega (arith, few));
       block = block;
       at = at;
-      parts = g.parts ∙ ap (λ (t : List PartAt). old.parts.items ++ t) (sym (instances_are chips plan.entry.now at block 0 ss (λ j k e. let same : k ≡ j = omega (arith, e) in ap (λ (n : ℕ). (instance_at plan.entry.now ss n).at) same) (λ j k e. let same : k ≡ j = omega (arith, e) in ap (λ (n : ℕ). (instance_at plan.entry.now ss n).block) same)));
+      parts = g.parts ∙ ap (λ (t : List PartAt). old.parts ++ t) (sym (instances_are chips plan.entry.now at block 0 ss (λ j k e. let same : k ≡ j = omega (arith, e) in ap (λ (n : ℕ). (instance_at plan.entry.now ss n).at) same) (λ j k e. let same : k ≡ j = omega (arith, e) in ap (λ (n : ℕ). (instance_at plan.entry.now ss n).block) same)));
       own_block = ap (λ (o : Option End). block_at o 0) none_is ∙ sym (ap (λ (o : Option End). block_at o (length old.blocks.items)) none_is);
       placed = λ net f h. composite chips net plans place plan g.planned are pins none_is small base inputs block at (λ name bit. refl)
           (λ j x q e f2. instance_there chips net base inputs plan.entry.now (parts_of chips plan.entry.now) g.planned.inner plan.parts.items ss (stand net f h) j x q e f2);
@@ -205,7 +205,7 @@ none_put chips plans place plan inputs old p none_is few =
       nodes = longer_none old.nodes.items;
       blocks = longer_none old.blocks.items;
       few = few;
-      parts = sym (nil_after old.parts.items);
+      parts = sym (nil_after old.parts);
       reads = λ n m a b c d e. e;
       words = λ h. h;
       stand = λ net f h tail t. t;
@@ -323,7 +323,7 @@ module _ (chips : Chips) (plans : List Plan) (place : ℕ) (plan : Plan) (inputs
         few = omega (arith, few, ln, lb);
       }
 
-  pub part_put : (nodes : List ℕ) (mid new : Growing) (listed : PartAt) → nodes ≡ map (node_of (length old.nodes.items) inputs) q.origins.items → mid.nodes.items ≡ now.nodes.items → mid.blocks.items ≡ now.blocks.items → mid.parts.items ≡ now.parts.items ++ listed ∷ [] →
+  pub part_put : (nodes : List ℕ) (mid new : Growing) (listed : PartAt) → nodes ≡ map (node_of (length old.nodes.items) inputs) q.origins.items → mid.nodes.items ≡ now.nodes.items → mid.blocks.items ≡ now.blocks.items → mid.parts ≡ now.parts ++ listed ∷ [] →
       listed.chip ≡ next_part.x.entry.now.name → listed.outs ≡ map (node_of (length now.nodes.items) nodes) next_part.x.outs.items → listed.block ≡ block_at next_part.x.end (length now.blocks.items) → IsPut chips next_part.x nodes mid new → IsGoing chips plans place plan inputs old new qs
   part_put nodes mid new listed e f h k name outs block put =
       let base = length old.nodes.items in
@@ -361,11 +361,11 @@ module _ (chips : Chips) (plans : List Plan) (place : ℕ) (plan : Plan) (inputs
         blocks = longer_more old.blocks.items now.blocks.items new.blocks.items g.blocks grows_blocks;
         few = put.few;
         parts = put.parts ∙ ap (λ (t : List PartAt). t ++ map (part_at chips put.at put.block) put.tree) k
-            ∙ assoc now.parts.items (listed ∷ []) (map (part_at chips put.at put.block) put.tree)
-            ∙ ap (λ (z : PartAt). now.parts.items ++ (z ∷ map (part_at chips put.at put.block) put.tree)) listed_is
+            ∙ assoc now.parts (listed ∷ []) (map (part_at chips put.at put.block) put.tree)
+            ∙ ap (λ (z : PartAt). now.parts ++ (z ∷ map (part_at chips put.at put.block) put.tree)) listed_is
             ∙ ap (λ (t : List PartAt). t ++ (part_at chips put.at put.block (record { path = []; chip = x.entry.now }) ∷ map (part_at chips put.at put.block) put.tree)) g.parts
-            ∙ assoc old.parts.items (listed_by chips g.done) (part_at chips put.at put.block (record { path = []; chip = x.entry.now }) ∷ map (part_at chips put.at put.block) put.tree)
-            ∙ ap (λ (t : List PartAt). old.parts.items ++ t) (sym (listed_more chips g.done s));
+            ∙ assoc old.parts (listed_by chips g.done) (part_at chips put.at put.block (record { path = []; chip = x.entry.now }) ∷ map (part_at chips put.at put.block) put.tree)
+            ∙ ap (λ (t : List PartAt). old.parts ++ t) (sym (listed_more chips g.done s));
         reads = λ n2 m a b c d r.
             let few = longer_length now.blocks.items new.blocks.items grows_blocks in
             let before = g.reads n2 m a b c (omega (arith, few, d)) r in
@@ -377,7 +377,7 @@ module _ (chips : Chips) (plans : List Plan) (place : ℕ) (plan : Plan) (inputs
             (record {
               nodes = subst (λ (t : List Node). All (Reads n2 m) t) (sym f) before.nodes;
               blocks = subst (λ (t : List Block). All (HasInputs n2) t) (sym h) before.blocks;
-              parts = subst (λ (t : List PartAt). All (λ p. All (λ i. i < n2) p.outs) t) (sym k) (All-append (λ p. All (λ i. i < n2) p.outs) now.parts.items (listed ∷ []) before.parts (all_one (λ p. All (λ i. i < n2) p.outs) listed outs_below));
+              parts = subst (λ (t : List PartAt). All (λ p. All (λ i. i < n2) p.outs) t) (sym k) (All-append (λ p. All (λ i. i < n2) p.outs) now.parts (listed ∷ []) before.parts (all_one (λ p. All (λ i. i < n2) p.outs) listed outs_below));
             });
         words = λ w. put.words (subst (λ (t : List Block). HasWords mid.nodes.items (length t)) (sym h) (subst (λ (t : List Node). HasWords t (length now.blocks.items)) (sym f) (g.words w)));
         stand = λ net a b tail t.
@@ -549,7 +549,7 @@ end_blocks_read n ends.Keyboard inputs fed a b = all_none (HasInputs n)
 end_blocks_read n ends.Rom inputs fed a b = all_one (HasInputs n) (rom_of inputs) (a, all_none (λ i. i < n), omega (arith, b), omega arith)
 end_blocks_read n (ends.Block bits) inputs fed a b = all_one (HasInputs n) (memory_of bits inputs) (all_drop n 17 inputs a, all_take n 16 inputs a, a 16 0 (omega (arith, fed.0)), take_few 16 inputs)
 
-end_reads : (n m : ℕ) (old new : Growing) (e : End) (inputs : List ℕ) → new.nodes.items ≡ old.nodes.items ++ end_puts e inputs (length old.blocks.items) → new.blocks.items ≡ old.blocks.items ++ end_blocks e inputs → new.parts.items ≡ old.parts.items → IsEndFed e (length inputs) → All (λ i. i < n) inputs → 1 < n → length new.blocks.items ≤ m → ReadsBelow n m old → ReadsBelow n m new
+end_reads : (n m : ℕ) (old new : Growing) (e : End) (inputs : List ℕ) → new.nodes.items ≡ old.nodes.items ++ end_puts e inputs (length old.blocks.items) → new.blocks.items ≡ old.blocks.items ++ end_blocks e inputs → new.parts ≡ old.parts → IsEndFed e (length inputs) → All (λ i. i < n) inputs → 1 < n → length new.blocks.items ≤ m → ReadsBelow n m old → ReadsBelow n m new
 end_reads n m old new e inputs f g h fed a b d r =
     let lb = ap length g ∙ length-append old.blocks.items (end_blocks e inputs) in
     record {
@@ -559,7 +559,7 @@ end_reads n m old new e inputs f g h fed a b d r =
     }
 
 pub end_put : (chips : Chips) (plans : List Plan) (place : ℕ) (plan : Plan) (e : End) (inputs : List ℕ) (old new : Growing) → ArePlans chips plans → EndsHavePins chips → slice_get plans place ≡ Some plan → plan.end ≡ Some e → length inputs ≡ length plan.inputs.items → length old.blocks.items ≤ length old.nodes.items →
-    new.nodes.items ≡ old.nodes.items ++ end_puts e inputs (length old.blocks.items) → new.blocks.items ≡ old.blocks.items ++ end_blocks e inputs → new.parts.items ≡ old.parts.items → IsPut chips plan inputs old new
+    new.nodes.items ≡ old.nodes.items ++ end_puts e inputs (length old.blocks.items) → new.blocks.items ≡ old.blocks.items ++ end_blocks e inputs → new.parts ≡ old.parts → IsPut chips plan inputs old new
 end_put chips plans place plan e inputs old new are pins there is long few f g h =
     let p : IsPlanned chips plans place plan = are place plan there in
     let is_end : end_of chips.memories plan.entry.now ≡ Some e = sym p.is_end ∙ is in
@@ -583,7 +583,7 @@ end_put chips plans place plan e inputs old new are pins there is long few f g h
           omega (arith, size, few, here);
       block = λ path. length old.blocks.items;
       at = at;
-      parts = h ∙ sym (nil_after old.parts.items);
+      parts = h ∙ sym (nil_after old.parts);
       own_block = refl;
       placed = λ net a b. end_placed chips net plans place plan p pins e is_end (length old.nodes.items) inputs (length old.blocks.items) at long (λ name bit. refl) (stands_end net old new e inputs f g a b);
       reads = λ n m a b c d r. end_reads n m old new e inputs f g h (end_fed chips plans place plan e inputs p pins is long) a b d r;
@@ -653,7 +653,7 @@ module _ (chips : Chips) (plans : List Plan) (place : ℕ) (plan : Plan) (inputs
         (subst (λ (x : Plan). All (IsWithin (length q.origins.items) 16777216) x.outs.items) head_same
         (all_wider (length q.origins.items) head_next.x.size.nodes 16777216 head_next.x.outs.items small (outs_within chips plans place plan inputs old now q qs h.are h.pins h.there h.long h.room h.going)))
 
-    pub head_put : (nodes : List ℕ) (mid new : Growing) (listed : PartAt) → nodes ≡ map (node_of (length old.nodes.items) inputs) q.origins.items → mid.nodes.items ≡ now.nodes.items → mid.blocks.items ≡ now.blocks.items → mid.parts.items ≡ now.parts.items ++ listed ∷ [] →
+    pub head_put : (nodes : List ℕ) (mid new : Growing) (listed : PartAt) → nodes ≡ map (node_of (length old.nodes.items) inputs) q.origins.items → mid.nodes.items ≡ now.nodes.items → mid.blocks.items ≡ now.blocks.items → mid.parts ≡ now.parts ++ listed ∷ [] →
         listed.chip ≡ y.entry.now.name → listed.outs ≡ map (node_of (length now.nodes.items) nodes) y.outs.items → listed.block ≡ block_at y.end (length now.blocks.items) → ((x : Plan) → slice_get plans q.place ≡ Some x → IsPut chips x nodes mid new) → IsGoing chips plans place plan inputs old new qs
     unfolding head_next next_part
     head_put nodes mid new listed e f g k name outs block put =

@@ -6,3 +6,4 @@ pub mod Plans
 pub mod Puts
 pub mod Putting
 pub mod Unfinished
+pub mod Heads

@@ -1,4 +1,5 @@
 pub mod Trees
 pub mod Ends
 pub mod Flat
+pub mod Kept
 pub mod Inner

@@ -19,6 +19,7 @@ ghost use Rattle.hdl_flatten.specs.Inner.Unfinished.{Task, ArePending, CanBegin,
 ghost use Rattle.hdl_flatten.specs.Inner.Putting.{IsWithin, AreWithin, own_nodes, from_two, constants, pins, words, end_puts, end_blocks, rom_of, memory_of, IsEndFed, MayPut, IsPut};
 
 use crate::nest::{entry_at, nest_of};
+use crate::parts::Parts;
 use crate::plan::{PartPlan, Plan, plans_of};
 use crate::wires::{Bit, Origin, Wires};
 use hdl_check::Catalog;
@@ -47,7 +48,7 @@ pub struct Flat {
     pub nodes: List<Node>,
     pub blocks: List<Block>,
     pub pins: List<PinAt>,
-    pub parts: List<PartAt>,
+    pub parts: Parts,
 }
 
 /// The nodes of the constants.
@@ -90,7 +91,7 @@ fn nodes_of(
 pub(crate) struct Growing {
     pub nodes: Vec<Node>,
     pub blocks: Vec<Block>,
-    pub parts: Vec<PartAt>,
+    pub parts: Parts,
 }
 
 // By hand, so that whoever drops one calls this.
@@ -110,7 +111,7 @@ impl Growing {
         ensures nodes { result.nodes ≡ self.nodes.items }
         ensures blocks { result.blocks ≡ self.blocks.items }
         ensures pins { result.pins ≡ listed.items }
-        ensures parts { result.parts ≡ self.parts.items }
+        ensures parts { result.parts ≡ self.parts }
     {
         let Growing {
             nodes,
@@ -121,7 +122,7 @@ impl Growing {
             nodes: List::of(nodes),
             blocks: List::of(blocks),
             pins: List::of(listed),
-            parts: List::of(parts),
+            parts,
         }
     }
 }
@@ -326,7 +327,7 @@ fn step<'a, 'b>(
         flat.nodes.as_slice().len(),
         flat.blocks.as_slice().len(),
     )?;
-    flat.parts.push(listed)?;
+    flat.parts.push(listed, part.place)?;
     push(
         stack,
         Unfinished {
@@ -456,18 +457,18 @@ fn begin(nodes: &mut Vec<Node>, n: usize) -> Result<(), AllocError>
     put_pins(nodes, n)
 }
 
-/// The constants, a pin for each input bit, and nothing after them.
-fn begun(alloc: Global, n: usize) -> Result<Growing, AllocError>
+/// The constants, a pin for each input bit, and nothing after them; parts of so many chips are to come.
+fn begun(alloc: Global, n: usize, chips: usize) -> Result<Growing, AllocError>
     ensures nodes { IfOk result (λ flat. flat.nodes.items ≡ constants ++ pins n) }
     ensures blocks { IfOk result (λ flat. flat.blocks.items ≡ []) }
-    ensures parts { IfOk result (λ flat. flat.parts.items ≡ []) }
+    ensures parts { IfOk result (λ flat. flat.parts ≡ []) }
 {
     let mut nodes = Vec::new(alloc);
     begin(&mut nodes, n)?;
     Ok(Growing {
         nodes,
         blocks: Vec::new(alloc),
-        parts: Vec::new(alloc),
+        parts: Parts::new(alloc, chips)?,
     })
 }
 
@@ -492,7 +493,7 @@ pub fn flatten(
     let plans = plans_of(alloc, &catalog, &nest.chips)?;
     let plan = &plans[nest.top];
     let inputs = input_nodes(alloc, plan.inputs.len())?;
-    let mut flat = begun(alloc, inputs.len())?;
+    let mut flat = begun(alloc, inputs.len(), plans.len())?;
     let base = flat.nodes.len();
     put(alloc, &catalog, &plans, nest.top, &inputs, &mut flat)?;
     let pins = directory(alloc, plan, base, &inputs)?;

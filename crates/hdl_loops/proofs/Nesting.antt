@@ -1,12 +1,9 @@
 -- Parts of a chip without faults nest less deep than there are chips.
-use Rattle.std.proofs.Common.{◌≡◌, ℕ, zero, suc, ◌+◌, ◌<◌, ◌≤◌, Bool, true, false, cond, List, [], ◌∷◌, length, Option, Some, refl, sym, ap, subst, ◌∙◌, arith}
-use Rattle.std.specs.Prelude.{slice_get, ◌||◌}
-use Rattle.std.specs.Str.{bytes_eq}
-use Rattle.std.specs.Cmp.Lexicographic.{bytes_decides}
+use Rattle.std.proofs.Common.{◌≡◌, ℕ, zero, suc, ◌<◌, List, [], ◌∷◌, length, Some, refl, sym, subst, arith}
+use Rattle.std.specs.Prelude.{slice_get}
 use Rattle.hdl_tree.specs.declared.library.Entry.{Entry}
-use Rattle.hdl_tree.specs.Chips.{Chips, find_chip, find_entry, parts_of}
+use Rattle.hdl_tree.specs.Chips.{Chips, find_chip, parts_of}
 use Rattle.hdl_tree.specs.Behaviour.{inner_chip}
-use Rattle.hdl_tree.specs.Writable.{is_among}
 use Rattle.hdl_check.specs.Locations.{IsFaultless}
 use Rattle.hdl_plans.specs.Ways.{JointsFit, TreeFits}
 use Rattle.hdl_plans.proofs.Fewer.{left, left_all, left_less}

@@ -222,6 +222,10 @@ seen_right chips known chip inside no_end is right done none linked sound there 
   full = λ fit. graph_full chips known chip inside.hops.items is right done fit;
 }
 
+-- a chip whose own graph has no circle, and whose parts are known
+pub seen_clear : (chips : Chips) (known : List (Option Known)) (chip : Entry) (hs : List Hop) → end_of chips.memories chip ≡ None → IsGraph chips known chip hs → AreKnown chips known → PartsDone chips known chip → NoRound hs → TreeFits chips chip → TreeClear chips chip
+seen_clear chips known chip hs no_end is right done none fit = clear_of chips known chip hs no_end is right done fit none
+
 -- no loop is in a tree in which the own graph of no chip has a circle
 pub clear_no_loop : (chips : Chips) (top : Entry) → TreeFits chips top → TreeClear chips top → (nets : List (List ℕ)) → IsLoop chips top nets → ⊥
 clear_no_loop chips top fit clear nets l = let h = circle_to_own chips top fit (l.first ∷ l.rest) l.circle.walk in clear h.path h.chip h.at h.circle

@@ -11,9 +11,10 @@ use Rattle.hdl_tree.specs.Chips.{Chips, end_of, parts_of}
 use Rattle.hdl_tree.specs.Behaviour.{chip_of, inner_chip}
 use Rattle.hdl_check.proofs.Stages.{entry_there}
 use Rattle.hdl_plans.specs.Loops.{IsLoop}
-use Rattle.hdl_loops.specs.Inner.Knowing.{place_of, IsKnown, IsDone, PartDone, PartsDone, NestsAt, StaysKnown}
-use Rattle.hdl_loops.specs.Inner.Stacked.{parts_in, parts_at, StandsAt, IsFrame, IsStack, IsEntered, times, power, many, frame_weight, weight}
-use Rattle.hdl_loops.specs.Inner.Looked.{TellsLoop}
+use Rattle.hdl_plans.specs.Ways.{TreeFits}
+use Rattle.hdl_loops.specs.Inner.Knowing.{place_of, IsKnown, IsDone, PartDone, PartsDone, NestsAt, StaysKnown, TreeClear}
+use Rattle.hdl_loops.specs.Inner.Stacked.{parts_in, parts_at, StandsAt, IsFrame, IsStack, IsEntered, HasOnlyLast, times, power, many, frame_weight, weight}
+use Rattle.hdl_loops.specs.Inner.Looked.{TellsLoop, EndsLook}
 use Rattle.hdl_loops.specs.declared.find.Frame.{Frame}
 use Rattle.hdl_loops.specs.declared.known.Known.{Known}
 use Rattle.hdl_loops.proofs.Growing.{get_kept, get_last, get_cases, length_more}
@@ -334,3 +335,23 @@ module _ (chips : Chips) (known : List (Option Known)) (top : ℕ) (init old : L
   -- it has no further part
   pub looked_at : (length parts ≤ f.next) → (chip : Entry) → slice_get chips.entries f.chip ≡ Some chip → PartsDone chips known chip
   looked_at le = ready chips known top init old f was stack (subst (λ (v : List Part). length v ≤ f.next) parts_here le)
+
+-- ---- the last chip of all
+
+pub last_ready : (chips : Chips) (known : List (Option Known)) (top : ℕ) (fs : List Frame) → IsStack chips known top fs → HasOnlyLast chips top fs → (chip : Entry) → slice_get chips.entries top ≡ Some chip → PartsDone chips known chip
+last_ready chips known top fs stack last chip at =
+    ready chips known top [] fs last.frame last.alone stack (subst (λ (k : ℕ). length (parts_at chips k) ≤ last.frame.next) (sym last.chip) last.ended) chip (ap (slice_get chips.entries) last.chip ∙ at)
+
+pub alone_is : (fs : List Frame) (d : Frame) → length fs ≡ 1 → fs ≡ get_or fs 0 d ∷ []
+alone_is [] d e = absurd (omega (arith, e))
+alone_is (f ∷ []) d e = refl
+alone_is (f ∷ g ∷ fs) d e = absurd (omega (arith, e))
+
+-- what the last look says
+pub ends_none : (chips : Chips) (chip : Entry) (r : Option (Vec (List ℕ) Global)) → EndsLook chips chip r → r ≡ None → TreeFits chips chip → TreeClear chips chip
+ends_none chips chip None h e = h
+ends_none chips chip (Some nets) h e = absurd cc
+
+pub ends_told : (chips : Chips) (chip : Entry) (r : Option (Vec (List ℕ) Global)) → EndsLook chips chip r → TellsLoop chips chip r
+ends_told chips chip None h = tt
+ends_told chips chip (Some nets) h = h

@@ -7,19 +7,20 @@ use Rattle.hdl_tree.specs.Chips.{find_chip, find_entry}
 use Rattle.hdl_check.specs.Whole.{chips_in, TopIsFaultless}
 use Rattle.hdl_plans.specs.Loops.{IsLoop}
 use Rattle.hdl_plans.proofs.Fits.{tree_fits}
-use Rattle.hdl_loops.specs.Inner.Knowing.{AreKnown, IsDone, NestsAt}
-use Rattle.hdl_loops.specs.declared.known.Known.{Known}
+use Rattle.hdl_plans.specs.Ways.{TreeFits}
+use Rattle.hdl_loops.specs.Inner.Knowing.{NestsAt, TreeClear}
 use Rattle.hdl_loops.proofs.Nesting.{faultless_nests}
-use Rattle.hdl_loops.proofs.Seen.{done_clear, clear_no_loop}
+use Rattle.hdl_loops.proofs.Seen.{clear_no_loop}
 
-pub top_has_none : (es fs : List Entry) (memories : Memories) (known : List (Option Known)) (k : ℕ) (name top : List ℕ) → es ≡ fs → name ≡ top → find_entry es name ≡ slice_get es k → TopIsFaultless (chips_in fs memories) top → IsDone (chips_in es memories) known k → AreKnown (chips_in es memories) known →
+pub top_has_none : (es fs : List Entry) (memories : Memories) (k : ℕ) (name top : List ℕ) → es ≡ fs → name ≡ top → find_entry es name ≡ slice_get es k → TopIsFaultless (chips_in fs memories) top → ((chip : Entry) → slice_get es k ≡ Some chip → TreeFits (chips_in es memories) chip → TreeClear (chips_in es memories) chip) →
     (entry : Entry) (nets : List (List ℕ)) → find_chip (chips_in fs memories) top ≡ Some entry → IsLoop (chips_in fs memories) entry nets → ⊥
-top_has_none es fs memories known k name top same named at fine done are entry nets found loop =
+top_has_none es fs memories k name top same named at fine clear entry nets found loop =
     let chips = chips_in fs memories in
     let f : find_entry fs top ≡ slice_get fs k = subst (λ v. find_entry v top ≡ slice_get v k) same (subst (λ n. find_entry es n ≡ slice_get es k) named at) in
     let there : slice_get fs k ≡ Some entry = sym f ∙ found in
     let fit = tree_fits chips (entry.name ∷ []) entry (fine entry found) in
-    clear_no_loop chips entry fit (done_clear chips known k entry there fit (subst (λ v. AreKnown (chips_in v memories) known) same are) (subst (λ v. IsDone (chips_in v memories) known k) same done)) nets loop
+    let clear_here : (chip : Entry) → slice_get fs k ≡ Some chip → TreeFits chips chip → TreeClear chips chip = subst (λ v. (chip : Entry) → slice_get v k ≡ Some chip → TreeFits (chips_in v memories) chip → TreeClear (chips_in v memories) chip) same clear in
+    clear_no_loop chips entry fit (clear_here entry there fit) nets loop
 
 -- parts of the chip nest less deep than there are chips
 pub top_nests : (es fs : List Entry) (memories : Memories) (k : ℕ) (name top : List ℕ) → es ≡ fs → name ≡ top → find_entry es name ≡ slice_get es k → TopIsFaultless (chips_in fs memories) top → NestsAt (length es) (chips_in es memories) k

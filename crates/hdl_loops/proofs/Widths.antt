@@ -8,7 +8,6 @@ use Rattle.hdl_tree.specs.Chips.{pin_width}
 use Rattle.hdl_tree.specs.Behaviour.{width_in, width_of}
 use Rattle.name_table.specs.Names.{find_value, first_of}
 use Rattle.hdl_check.specs.Faults.{ports_of}
-use Rattle.hdl_check.specs.declared.check.Port.{Port}
 use Rattle.hdl_plans.specs.Plans.{is_input}
 use Rattle.hdl_plans.proofs.Sound.{as_port, found_ports}
 

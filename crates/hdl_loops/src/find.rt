@@ -6,10 +6,11 @@ ghost use Rattle.hdl_tree.specs.Chips.{end_of, find_chip, find_entry};
 ghost use Rattle.hdl_tree.specs.Chips.{parts_of as parts_in};
 ghost use Rattle.hdl_check.specs.Whole.{chips_in, TopIsFaultless};
 ghost use Rattle.hdl_plans.specs.Loops.{IsLoop};
+ghost use Rattle.hdl_plans.specs.Ways.{TreeFits};
 ghost use Rattle.hdl_loops.specs.Inner.Hops.{NoRound};
-ghost use Rattle.hdl_loops.specs.Inner.Looked.{LooksRight, TellsLoop};
-ghost use Rattle.hdl_loops.specs.Inner.Stacked.{IsStack, IsEntered, weight};
-ghost use Rattle.hdl_loops.specs.Inner.Knowing.{ArePlaces, AreHops, IsFull, AreKnown, IsKnown, IsDone, Notes, Nests, PartsDone, StaysKnown, KnowNothing, NestsAt};
+ghost use Rattle.hdl_loops.specs.Inner.Looked.{LooksRight, TellsLoop, EndsLook};
+ghost use Rattle.hdl_loops.specs.Inner.Stacked.{IsStack, IsEntered, HasOnlyLast, weight};
+ghost use Rattle.hdl_loops.specs.Inner.Knowing.{ArePlaces, AreHops, IsFull, AreKnown, IsKnown, IsDone, Notes, Nests, PartsDone, StaysKnown, KnowNothing, NestsAt, TreeClear};
 
 use crate::circle::circle_in;
 use crate::graph::graph_of;
@@ -263,8 +264,48 @@ fn step<'a>(
     )
 }
 
-/// The nets of a loop in chip k, in which chips nest less deep than this; none, and the chip is known, if it is no end. The chips on the
-/// way to the one that is looked at stand on a stack, so that no depth is too deep.
+/// The nets of a loop of chip k, which is no end and whose parts are known. Nothing else is known of it afterwards.
+fn look_last<'a>(
+    alloc: Global,
+    entries: &'a [Entry],
+    places: &Places<'a>,
+    memories: Memories,
+    known: &[Option<Known<'a>>],
+    k: usize,
+    depth: usize,
+) -> Result<Option<Vec<Name>>, AllocError>
+    requires placed { ArePlaces places.now entries.now }
+    requires there { k < length entries.now }
+    requires right { AreKnown (chips_in entries.now memories) known.now }
+    requires no_end { (entry : Entry) → slice_get entries.now k ≡ Some entry
+        → end_of memories entry ≡ None }
+    requires done { (entry : Entry) → slice_get entries.now k ≡ Some entry
+        → PartsDone (chips_in entries.now memories) known.now entry }
+    requires nests { NestsAt depth (chips_in entries.now memories) k }
+    ensures { IfOk result (λ r. (chip : Entry) → slice_get entries.now k ≡ Some chip
+        → EndsLook (chips_in entries.now memories) chip r) }
+{
+    let entry = &entries[k];
+    let parts = parts_of(memories, entry);
+    let hops = graph_of(alloc, entries, places, memories, known, parts)?;
+    loop_in(alloc, entries, memories, known, entry, &hops, depth)
+}
+
+/// Whether chip k alone stands on the stack, with no part left.
+fn is_last(entries: &[Entry], memories: Memories, k: usize, stack: &[Frame]) -> bool
+    requires { k < length entries.now }
+    ensures { result ≡ true
+        → HasOnlyLast (chips_in entries.now memories) k stack.now }
+{
+    if stack.len() != 1 {
+        return false;
+    }
+    let frame = stack[0];
+    frame.chip == k && parts_of(memories, &entries[k]).len() <= frame.next
+}
+
+/// The nets of a loop in chip k, in which chips nest less deep than this; none, and it has no loop. The chips on the way to the one that
+/// is looked at stand on a stack, so that no depth is too deep. Which bits of chip k itself lead to which is not asked for.
 fn find_in<'a>(
     alloc: Global,
     entries: &'a [Entry],
@@ -279,9 +320,9 @@ fn find_in<'a>(
     requires there { k < length entries.now }
     requires right { AreKnown (chips_in entries.now memories) known.old }
     requires nests { NestsAt depth (chips_in entries.now memories) k }
-    ensures right { OnOk result (AreKnown (chips_in entries.now memories) known.new) }
-    ensures done { IfOk result
-        (λ r. r ≡ None → IsDone (chips_in entries.now memories) known.new k) }
+    ensures none { IfOk result (λ r. r ≡ None → (chip : Entry) → slice_get entries.now k ≡ Some chip
+        → TreeFits (chips_in entries.now memories) chip
+        → TreeClear (chips_in entries.now memories) chip) }
     ensures told { IfOk result (λ r. (chip : Entry) → slice_get entries.now k ≡ Some chip
         → TellsLoop (chips_in entries.now memories) chip r) }
 {
@@ -295,6 +336,9 @@ fn find_in<'a>(
         depth,
     })?;
     while !stack.is_empty() {
+        if is_last(entries, memories, k, &stack) {
+            return look_last(alloc, entries, places, memories, known, k, depth);
+        }
         if let Some(nets) = step(alloc, entries, places, memories, known, k, &mut stack)? {
             return Ok(Some(nets));
         }

@@ -2,10 +2,9 @@
 //!
 //! Each chip is looked at once, after the chips of its parts. `graph` lists the hops of its own graph, each from a bit of the chip through
 //! one part to a bit of the chip: `joint` lists what the part's connections join, and `places` has the pins of each chip for that. `pins`
-//! finds what a bit of a pin is joined to, and `known` says which outputs of its chip depend on which inputs. `circle` finds a circle of hops, or sees that there is no circle: `ranks` that
-//! rise along each hop show that. `tree` lists what
-//! is reached from a bit, and by which ways, along the hops that by `leaving` leave what is reached; `pairs` does so for each bit of some
-//! pins. `search` only proposes a circle, so that it is found quickly. `find` goes through the chips. `names` goes along a circle and
+//! finds what a bit of a pin is joined to, and `known` says which outputs of its chip depend on which inputs. `circle` finds a circle of
+//! hops, or sees that there is no circle: `ranks` that rise along each hop show that. `tree` lists what is reached from a bit, and by
+//! which ways, along the hops that by `leaving` leave what is reached; `pairs` does so for each bit of some pins. `search` only proposes a circle, so that it is found quickly. `find` goes through the chips. `names` goes along a circle and
 //! through the parts, and `report` keeps the nets that it passes. What is proved is each answer: that there is no loop, or that the nets are a
 //! loop's. There is no other but want of memory.
 #![tactic(auto)]

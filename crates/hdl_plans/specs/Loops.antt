@@ -64,7 +64,8 @@ next_bit bits k = if nat_eq (suc k) (length bits) then slice_get bits 0 else sli
 -- a walk of bits that comes back: each feeds the one that follows
 pub record IsWalk (chips : Chips) (top : Entry) (bits : List BitAt) : Type 0 where
   pub some : 0 < length bits
-  pub feeds : (k : ℕ) (x y : BitAt) → slice_get bits k ≡ Some x → next_bit bits k ≡ Some y → Feeds chips top x y
+  pub feeds : (k : ℕ) (x y : BitAt) → slice_get bits k ≡ Some x → next_bit bits k ≡ Some y
+      → Feeds chips top x y
 
 -- no bit stands in two places
 abbrev pub AreDistinctBits : List BitAt → Type 0

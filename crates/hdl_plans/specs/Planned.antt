@@ -71,8 +71,11 @@ PlanLaw = (chips : Chips) (names : List (List ℕ)) (chip : Entry) → IsFaultle
 
 -- the ends of the library have the pins that they are shipped with
 pub record HasEnds (chips : Chips) : Type 0 where
-  pub fits : (name : List ℕ) (chip : Entry) (e : End) → find_chip chips name ≡ Some chip → end_of chips.memories chip ≡ Some e → EndFits chip (Some e)
-  pub apart : (name : List ℕ) (chip : Entry) (e : End) → find_chip chips name ≡ Some chip → end_of chips.memories chip ≡ Some e → (pin : List ℕ) (width : ℕ) → width_in chip.chip.outputs pin ≡ Some width → is_input chip pin ≡ false
+  pub fits : (name : List ℕ) (chip : Entry) (e : End) → find_chip chips name ≡ Some chip
+      → end_of chips.memories chip ≡ Some e → EndFits chip (Some e)
+  pub apart : (name : List ℕ) (chip : Entry) (e : End) → find_chip chips name ≡ Some chip
+      → end_of chips.memories chip ≡ Some e → (pin : List ℕ) (width : ℕ)
+      → width_in chip.chip.outputs pin ≡ Some width → is_input chip pin ≡ false
 
 -- A chip of the library without faults is sound: its parts nest no deeper than there are chips.
 abbrev pub SoundLaw : Type 0

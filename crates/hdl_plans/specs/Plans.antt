@@ -41,10 +41,23 @@ IsDriver plan chip i conn k (source.Constant b) = ⊥
 
 -- the plan of a chip without faults
 pub record IsPlan (library : Chips) (chip : Entry) (plan : Plan) : Type 0 where
-  pub output : (i j k : ℕ) (part : Part) (inner : Entry) (conn : Connection) → slice_get (parts_of library chip) i ≡ Some part → find_chip library part.chip ≡ Some inner → slice_get part.connections j ≡ Some conn → is_input inner conn.pin.name ≡ false → k < count conn.pin.subscript (width_of inner conn.pin.name) → IsDriver plan chip i conn k conn.source
-  pub input : (i j k : ℕ) (part : Part) (inner : Entry) (conn : Connection) → slice_get (parts_of library chip) i ≡ Some part → find_chip library part.chip ≡ Some inner → slice_get part.connections j ≡ Some conn → is_input inner conn.pin.name ≡ true → k < count conn.pin.subscript (width_of inner conn.pin.name) → plan.origin i conn.pin.name (first conn.pin.subscript + k) ≡ origin_of conn.source k
-  pub unjoined : (i width bit : ℕ) (name : List ℕ) (part : Part) (inner : Entry) → slice_get (parts_of library chip) i ≡ Some part → find_chip library part.chip ≡ Some inner → width_in inner.chip.inputs name ≡ Some width → bit < width → some (reaches inner name bit) part.connections ≡ false → plan.origin i name bit ≡ Low
-  pub undriven : (width bit : ℕ) (name : List ℕ) → width_in chip.chip.outputs name ≡ Some width → bit < width → some (drives library name bit) (parts_of library chip) ≡ false → (is_input chip name ≡ false) × (plan.driver name bit ≡ None)
+  pub output : (i j k : ℕ) (part : Part) (inner : Entry) (conn : Connection)
+      → slice_get (parts_of library chip) i ≡ Some part → find_chip library part.chip ≡ Some inner
+      → slice_get part.connections j ≡ Some conn → is_input inner conn.pin.name ≡ false
+      → k < count conn.pin.subscript (width_of inner conn.pin.name)
+      → IsDriver plan chip i conn k conn.source
+  pub input : (i j k : ℕ) (part : Part) (inner : Entry) (conn : Connection)
+      → slice_get (parts_of library chip) i ≡ Some part → find_chip library part.chip ≡ Some inner
+      → slice_get part.connections j ≡ Some conn → is_input inner conn.pin.name ≡ true
+      → k < count conn.pin.subscript (width_of inner conn.pin.name)
+      → plan.origin i conn.pin.name (first conn.pin.subscript + k) ≡ origin_of conn.source k
+  pub unjoined : (i width bit : ℕ) (name : List ℕ) (part : Part) (inner : Entry)
+      → slice_get (parts_of library chip) i ≡ Some part → find_chip library part.chip ≡ Some inner
+      → width_in inner.chip.inputs name ≡ Some width → bit < width
+      → some (reaches inner name bit) part.connections ≡ false → plan.origin i name bit ≡ Low
+  pub undriven : (width bit : ℕ) (name : List ℕ) → width_in chip.chip.outputs name ≡ Some width
+      → bit < width → some (drives library name bit) (parts_of library chip) ≡ false
+      → (is_input chip name ≡ false) × (plan.driver name bit ≡ None)
 
 -- an end with its pins
 abbrev pub EndFits : Entry → Option End → Type 0

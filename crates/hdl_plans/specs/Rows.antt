@@ -112,7 +112,8 @@ pub record Behaves (world : World) (n : ℕ) (input : ℕ → Bool) : Type 0 whe
 
 pub record RowsLaw : Type 0 where
   -- a memory has as many words as its name says, and the screen 8,192
-  pub sizes : map (λ name. words (end_named Blocks name)) memories ≡ Some 8 ∷ Some 64 ∷ Some 512 ∷ Some 4096 ∷ Some 16384 ∷ Some 8192 ∷ []
+  pub sizes : map (λ name. words (end_named Blocks name)) memories
+      ≡ Some 8 ∷ Some 64 ∷ Some 512 ∷ Some 4096 ∷ Some 16384 ∷ Some 8192 ∷ []
   -- where memories are no blocks they are no ends
   pub no_blocks : map (end_named Gates) memories ≡ None ∷ None ∷ None ∷ None ∷ None ∷ None ∷ []
   -- whatever comes in, there is a behaviour
@@ -127,8 +128,11 @@ pub record RowsLaw : Type 0 where
   pub first_ring : IsLoop (beside two_rings) two_rings (codes "x" ∷ codes "y" ∷ [])
   pub second_ring : IsLoop (beside two_rings) two_rings (codes "x" ∷ codes "z" ∷ [])
   -- the one walked after the other is none
-  pub no_double_ring : IsLoop (beside two_rings) two_rings (codes "x" ∷ codes "y" ∷ codes "z" ∷ []) → ⊥
+  pub no_double_ring : IsLoop (beside two_rings) two_rings (codes "x" ∷ codes "y" ∷ codes "z" ∷ [])
+      → ⊥
   -- two rings that share a bit are no circle
-  pub no_bit_twice : (chips : Chips) (top : Entry) (x y z : BitAt) → IsBitCircle chips top (x ∷ y ∷ x ∷ z ∷ []) → ⊥
+  pub no_bit_twice : (chips : Chips) (top : Entry) (x y z : BitAt)
+      → IsBitCircle chips top (x ∷ y ∷ x ∷ z ∷ []) → ⊥
   -- no loop goes through a flip-flop, nor through a block by its word or its load
-  pub no_clocked_loop : (nets : List (List ℕ)) → IsLoop (beside clocked_rings) clocked_rings nets → ⊥
+  pub no_clocked_loop : (nets : List (List ℕ)) → IsLoop (beside clocked_rings) clocked_rings nets
+      → ⊥

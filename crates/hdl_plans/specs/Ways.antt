@@ -111,17 +111,23 @@ pub record Circle (chips : Chips) (top : Entry) : Type 0 where
 -- a circle, each bit of which is one of these
 pub record CircleAmong (chips : Chips) (top : Entry) (bits : List BitAt) : Type 0 where
   pub circle : Circle chips top
-  pub among : (k : ℕ) (x : BitAt) → slice_get circle.bits k ≡ Some x → (j : ℕ) × (slice_get bits j ≡ Some x)
+  pub among : (k : ℕ) (x : BitAt) → slice_get circle.bits k ≡ Some x
+      → (j : ℕ) × (slice_get bits j ≡ Some x)
 
 -- There is a circle of bits in a tree exactly where the own graph of a chip in it has one.
 pub record CircleLaw : Type 0 where
   -- a walk that comes back has a circle among its bits
-  pub simple : (chips : Chips) (top : Entry) (bits : List BitAt) → IsWalk chips top bits → CircleAmong chips top bits
-  pub found : (chips : Chips) (top : Entry) → TreeFits chips top → (bits : List BitAt) → IsWalk chips top bits → HasOwnCircle chips top
+  pub simple : (chips : Chips) (top : Entry) (bits : List BitAt) → IsWalk chips top bits
+      → CircleAmong chips top bits
+  pub found : (chips : Chips) (top : Entry) → TreeFits chips top → (bits : List BitAt)
+      → IsWalk chips top bits → HasOwnCircle chips top
   pub real : (chips : Chips) (top : Entry) → HasOwnCircle chips top → Circle chips top
   -- an output depends on an input exactly where the chip's own graph has a way
-  pub own : (chips : Chips) (chip : Entry) → JointsFit chips chip → (n m : List ℕ) (b k : ℕ) → Way (Feeds chips chip) (bit_at [] n b) (bit_at [] m k) → Way (Own chips chip) (bit_at [] n b) (bit_at [] m k)
-  pub whole : (chips : Chips) (chip : Entry) (x y : BitAt) → Way (Own chips chip) x y → Way (Feeds chips chip) x y
+  pub own : (chips : Chips) (chip : Entry) → JointsFit chips chip
+      → (n m : List ℕ) (b k : ℕ) → Way (Feeds chips chip) (bit_at [] n b) (bit_at [] m k)
+      → Way (Own chips chip) (bit_at [] n b) (bit_at [] m k)
+  pub whole : (chips : Chips) (chip : Entry) (x y : BitAt) → Way (Own chips chip) x y
+      → Way (Feeds chips chip) x y
 
 -- ---- no circle
 

@@ -26,8 +26,12 @@ EndIsTold outside inputs n path outs block (ends.Block bits) = (b : ℕ) → blo
 
 -- Each end among the parts is told that, where the directory lists them. So is a chip that is an end itself, at its output pin; it has the only block.
 pub record IsTold (outside : Environment) (inputs : Inputs) (n : ℕ) (chips : Chips) (top : Entry) (tree : List PartIn) (e : Elab) : Type 0 where
-  pub parts : (k : ℕ) (part : PartIn) (listed : PartAt) (kind : End) → slice_get tree k ≡ Some part → slice_get e.parts k ≡ Some listed → end_of chips.memories part.chip ≡ Some kind → EndIsTold outside inputs n part.path listed.outs listed.block kind
-  pub alone : (pin : PinAt) (kind : End) → slice_get e.pins (length top.chip.inputs) ≡ Some pin → end_of chips.memories top ≡ Some kind → EndIsTold outside inputs n [] pin.nodes (Some 0) kind
+  pub parts : (k : ℕ) (part : PartIn) (listed : PartAt) (kind : End) → slice_get tree k ≡ Some part
+      → slice_get e.parts k ≡ Some listed → end_of chips.memories part.chip ≡ Some kind
+      → EndIsTold outside inputs n part.path listed.outs listed.block kind
+  pub alone : (pin : PinAt) (kind : End)
+      → slice_get e.pins (length top.chip.inputs) ≡ Some pin → end_of chips.memories top ≡ Some kind
+      → EndIsTold outside inputs n [] pin.nodes (Some 0) kind
 
 -- the words that the blocks are loaded with are words
 abbrev pub AreWords : Inputs → Type 0
@@ -46,6 +50,14 @@ AreGiven top e inputs given =
 -- The netlist shows the behaviour over n cycles, where v gives the values of the nodes: each bit of each pin of the chip, each output bit of each
 -- part, and each word of each memory among the parts, at the start of each cycle.
 pub record Shows (chips : Chips) (tree : List PartIn) (e : Elab) (outside : Environment) (inputs : Inputs) (n : ℕ) (v : ℕ → ℕ → Bool) (wires : List ℕ → Histories) : Type 0 where
-  pub pins : (k bit node c : ℕ) (pin : PinAt) → c < n → slice_get e.pins k ≡ Some pin → slice_get pin.nodes bit ≡ Some node → wires [] pin.name bit c ≡ v node c
-  pub parts : (k j node c : ℕ) (part : PartIn) (listed : PartAt) (b : BitOf) → c < n → slice_get tree k ≡ Some part → slice_get e.parts k ≡ Some listed → slice_get (all_bits part.chip.chip.outputs) j ≡ Some b → slice_get listed.outs j ≡ Some node → wires part.path b.name b.bit c ≡ v node c
-  pub words : (k b bits c a : ℕ) (part : PartIn) (listed : PartAt) → c ≤ n → a < 2 ^ bits → slice_get tree k ≡ Some part → slice_get e.parts k ≡ Some listed → listed.block ≡ Some b → end_of chips.memories part.chip ≡ Some (ends.Block bits) → memory_word bits (outside.words part.path) (wires part.path) c a ≡ held_in e.net.blocks inputs.loaded v c b a
+  pub pins : (k bit node c : ℕ) (pin : PinAt) → c < n → slice_get e.pins k ≡ Some pin
+      → slice_get pin.nodes bit ≡ Some node → wires [] pin.name bit c ≡ v node c
+  pub parts : (k j node c : ℕ) (part : PartIn) (listed : PartAt) (b : BitOf)
+      → c < n → slice_get tree k ≡ Some part → slice_get e.parts k ≡ Some listed
+      → slice_get (all_bits part.chip.chip.outputs) j ≡ Some b → slice_get listed.outs j ≡ Some node
+      → wires part.path b.name b.bit c ≡ v node c
+  pub words : (k b bits c a : ℕ) (part : PartIn) (listed : PartAt)
+      → c ≤ n → a < 2 ^ bits → slice_get tree k ≡ Some part → slice_get e.parts k ≡ Some listed
+      → listed.block ≡ Some b → end_of chips.memories part.chip ≡ Some (ends.Block bits)
+      → memory_word bits (outside.words part.path) (wires part.path) c a
+      ≡ held_in e.net.blocks inputs.loaded v c b a

@@ -74,9 +74,9 @@ value_by world c past w r (Copied q name bit) = w q name bit
 value_by world c past w r (Worked e bit) = end_bit world c (past r) e (w r) bit
 
 -- the values after some sweeps, each of which gives every bit its value from those before
-abbrev pub swept : Chips → Entry → World → ℕ → (List ℕ → Histories) → (List ℕ → ℕ → Bool) → ℕ → List ℕ → Wires Bool
-swept chips top world c past input zero r name bit = false
-swept chips top world c past input (suc k) r name bit = value_by world c past (swept chips top world c past input k) r (supply chips top input r name bit)
+abbrev pub swept_value : Chips → Entry → World → ℕ → (List ℕ → Histories) → (List ℕ → ℕ → Bool) → ℕ → List ℕ → Wires Bool
+swept_value chips top world c past input zero r name bit = false
+swept_value chips top world c past input (suc k) r name bit = value_by world c past (swept_value chips top world c past input k) r (supply chips top input r name bit)
 
 -- ---- the bits that connections join
 

@@ -15,7 +15,8 @@ pub record IsWired (chips : Chips) (frame : Frame) : Type 0 where
   pub there : slice_get chips.entries frame.number ≡ Some frame.entry.now
   pub parts : frame.parts.now ≡ parts_of chips frame.entry.now
   pub nets : NetsFind frame.nets (drivers_of chips (parts_of chips frame.entry.now))
-  pub driven : HasMarks frame.driven (bits_driven (drivers_of chips (take frame.place (parts_of chips frame.entry.now))))
+  pub driven : HasMarks frame.driven
+      (bits_driven (drivers_of chips (take frame.place (parts_of chips frame.entry.now))))
 
 -- chip k at its first part
 pub record IsBegun (chips : Chips) (k : ℕ) (frame : Frame) : Type 0 where

@@ -31,7 +31,8 @@ numbered_entries n (entry ∷ entries) = (entry.name, n) ∷ numbered_entries (s
 
 pub record ArePorts (entries : List Entry) (tables : List (Table Port)) : Type 0 where
   pub as_many : length tables ≡ length entries
-  pub each : (k : ℕ) (entry : Entry) (table : Table Port) → slice_get entries k ≡ Some entry → slice_get tables k ≡ Some table → Finds table (ports_of entry.chip)
+  pub each : (k : ℕ) (entry : Entry) (table : Table Port) → slice_get entries k ≡ Some entry
+      → slice_get tables k ≡ Some table → Finds table (ports_of entry.chip)
 
 pub record IsCatalog (catalog : Catalog) : Type 0 where
   pub distinct : AreDistinct catalog.entries.now
@@ -65,7 +66,9 @@ Avoids chips stages r names = (k q : ℕ) (entry : Entry) → slice_get stages k
 pub record IsProgress (chips : Chips) (stages : List Stage) (done : ℕ) : Type 0 where
   pub long : length stages ≡ length chips.entries
   pub ranked : (k r : ℕ) → slice_get stages k ≡ Some (Done r) → r < done
-  pub faultless : (k r : ℕ) (entry : Entry) → slice_get stages k ≡ Some (Done r) → slice_get chips.entries k ≡ Some entry → (outer : List (List ℕ)) → Avoids chips stages r outer → IsFaultless chips (entry.name ∷ outer) entry
+  pub faultless : (k r : ℕ) (entry : Entry) → slice_get stages k ≡ Some (Done r)
+      → slice_get chips.entries k ≡ Some entry → (outer : List (List ℕ))
+      → Avoids chips stages r outer → IsFaultless chips (entry.name ∷ outer) entry
 
 -- these are the names of the open chips
 abbrev pub AreOpen : Chips → List Stage → List (List ℕ) → Type 0
@@ -150,7 +153,8 @@ pub record IsInner (chips : Chips) (part : Part) (k : ℕ) : Type 0 where
 pub record ChipIsFine (chips : Chips) (stages : List Stage) (entry : Entry) : Type 0 where
   pub pins : (k : ℕ) → unless (end_of chips.memories entry) (pin_fault entry k) ≡ None
   pub body : unless (end_of chips.memories entry) (body_fault entry) ≡ None
-  pub parts : (i : ℕ) (part : Part) → slice_get (parts_of chips entry) i ≡ Some part → PartIsFine chips stages entry i part
+  pub parts : (i : ℕ) (part : Part) → slice_get (parts_of chips entry) i ≡ Some part
+      → PartIsFine chips stages entry i part
 
 -- a pin whose name an earlier pin has, where some pins stand in front
 abbrev pub pin_fault_in : Entry → List Pin → List Pin → ℕ → Option NamedFault

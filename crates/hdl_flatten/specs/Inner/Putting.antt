@@ -98,7 +98,7 @@ pub record Longer {X : Type 0} (old new : List X) : Type 0 where
 pub record ReadsBelow (n m : ℕ) (flat : Growing) : Type 0 where
   pub nodes : All (Reads n m) flat.nodes.items
   pub blocks : All (HasInputs n) flat.blocks.items
-  pub parts : All (λ p. All (λ i. i < n) p.outs) flat.parts.items
+  pub parts : All (λ p. All (λ i. i < n) p.outs) flat.parts
 
 -- so does what comes after, if all of the chip's nodes are there
 abbrev pub ReadMore : Plan → List ℕ → Growing → Growing → Type 0
@@ -140,7 +140,7 @@ pub record IsPut (chips : Chips) (plan : Plan) (inputs : List ℕ) (old new : Gr
   pub counted : plan.size.nodes ≡ capped_count (chip_nodes chips plan.entry.now + part_nodes chips tree)
   pub block : List ℕ → ℕ
   pub at : List ℕ → Wires ℕ
-  pub parts : new.parts.items ≡ old.parts.items ++ map (part_at chips at block) tree
+  pub parts : new.parts ≡ old.parts ++ map (part_at chips at block) tree
   pub own_block : block_at (end_of chips.memories plan.entry.now) (block []) ≡ block_at (end_of chips.memories plan.entry.now) (length old.blocks.items)
   pub placed : (net : Net) → Longer new.nodes.items net.nodes → Longer new.blocks.items net.blocks → IsPlaced chips net plan (length old.nodes.items) inputs block at
   pub reads : ReadMore plan inputs old new
@@ -189,7 +189,7 @@ pub record IsGoing (chips : Chips) (plans : List Plan) (place : ℕ) (plan : Pla
   pub nodes : Longer old.nodes.items now.nodes.items
   pub blocks : Longer old.blocks.items now.blocks.items
   pub few : length now.blocks.items ≤ length now.nodes.items
-  pub parts : now.parts.items ≡ old.parts.items ++ listed_by chips done
+  pub parts : now.parts ≡ old.parts ++ listed_by chips done
   pub reads : ReadMore plan inputs old now
   pub words : WordsMore old now
   pub stand : (net : Net) → Longer now.nodes.items net.nodes → Longer now.blocks.items net.blocks → (tail : List Instance) → AreInstances chips net (length old.nodes.items) inputs parts_left plans_left rest tail →

@@ -54,7 +54,7 @@ pub record CanBegin (plan : Plan) (inputs : List ℕ) (flat : Growing) : Type 0 
 pub record EndStands (e : End) (inputs : List ℕ) (old new : Growing) : Type 0 where
   pub nodes : new.nodes.items ≡ old.nodes.items ++ end_puts e inputs (length old.blocks.items)
   pub blocks : new.blocks.items ≡ old.blocks.items ++ end_blocks e inputs
-  pub parts : new.parts.items ≡ old.parts.items
+  pub parts : new.parts ≡ old.parts
 
 -- the chip of the plan is on top, and none of its parts is put
 pub record IsOnStack (plan : Plan) (inputs : List ℕ) (old : Growing) (before after : List Unfinished) : Type 0 where

@@ -105,7 +105,8 @@ through_pair turned p = if turned then record { from = p.to; to = p.from } else 
 -- what is known of chip k is this, and it is no end
 pub record KnownAs (chips : Chips) (known : List (Option Known)) (k : ℕ) (inside : Known) : Type 0 where
   pub noted : slice_get known k ≡ Some (Some inside)
-  pub no_end : (chip : Entry) → slice_get chips.entries k ≡ Some chip → end_of chips.memories chip ≡ None
+  pub no_end : (chip : Entry) → slice_get chips.entries k ≡ Some chip
+      → end_of chips.memories chip ≡ None
 
 abbrev pub next_place : Option ℕ → Option ℕ
 next_place None = None
@@ -150,8 +151,10 @@ pub record IsHop (chips : Chips) (known : List (Option Known)) (chip : Entry) (h
   pub there : slice_get (parts_of chips chip) i ≡ Some part
   pub found : find_chip chips part.chip ≡ Some inner
   pub place : slice_get chips.entries h.chip ≡ Some inner
-  pub goes_in : HasConnection inner part true h.from.name.now h.from.bit h.through.input.now h.through.bit
-  pub goes_out : HasConnection inner part false h.to.name.now h.to.bit h.through.output.now h.through.out
+  pub goes_in : HasConnection inner part true h.from.name.now h.from.bit h.through.input.now
+      h.through.bit
+  pub goes_out : HasConnection inner part false h.to.name.now h.to.bit h.through.output.now
+      h.through.out
   pub crosses_it : crosses chips known h.chip (input_of h.through) (output_of h.through) ≡ true
 
 abbrev pub AreHops : Chips → List (Option Known) → Entry → List Hop → Type 0
@@ -178,8 +181,10 @@ TreeClear chips top = (path : List ℕ) (chip : Entry) → chip_at chips top pat
 pub record IsRight (chips : Chips) (known : List (Option Known)) (chip : Entry) (inside : Known) : Type 0 where
   pub hops : AreHops chips known chip inside.hops.items
   pub linked : IsLinked inside.hops.items inside.leaving (length inside.hops.items)
-  pub sound : (n m : List ℕ) (b k : ℕ) → leads inside (bit_at [] n b) (bit_at [] m k) ≡ true → Way (HasHop inside.hops.items) (bit_at [] n b) (bit_at [] m k)
-  pub covers : TreeFits chips chip → (n m : List ℕ) (b k : ℕ) → Depends chips chip n b m k → leads inside (bit_at [] n b) (bit_at [] m k) ≡ true
+  pub sound : (n m : List ℕ) (b k : ℕ) → leads inside (bit_at [] n b) (bit_at [] m k) ≡ true
+      → Way (HasHop inside.hops.items) (bit_at [] n b) (bit_at [] m k)
+  pub covers : TreeFits chips chip → (n m : List ℕ) (b k : ℕ) → Depends chips chip n b m k
+      → leads inside (bit_at [] n b) (bit_at [] m k) ≡ true
   pub clear : TreeFits chips chip → TreeClear chips chip
   pub full : TreeFits chips chip → IsFull chips chip inside.hops.items
 
@@ -212,7 +217,8 @@ PartsDone chips known chip = (i : ℕ) (part : Part) (k : ℕ) → slice_get (pa
 pub record Notes (old new : List (Option Known)) (k : ℕ) (inside : Known) : Type 0 where
   pub stays : StaysKnown old new
   pub noted : IsKnown new k
-  pub only : (j : ℕ) (other : Known) → slice_get new j ≡ Some (Some other) → slice_get old j ≡ Some (Some other) ⊎ ((j ≡ k) × (other ≡ inside))
+  pub only : (j : ℕ) (other : Known) → slice_get new j ≡ Some (Some other)
+      → slice_get old j ≡ Some (Some other) ⊎ ((j ≡ k) × (other ≡ inside))
 
 -- ---- depth
 

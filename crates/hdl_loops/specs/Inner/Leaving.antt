@@ -32,7 +32,12 @@ LeavesIn hs (Some p) x = Leaves hs p x
 -- the first n hops of the list are entered
 pub record IsLinked (hs : List Hop) (l : Leaving) (n : ℕ) : Type 0 where
   pub long : length l.before.items ≡ n
-  pub latest : (q : ℕ) (h : Hop) → q < n → slice_get hs q ≡ Some h → IsFrom (latest_from l (bit h.from)) q
-  pub heads : (m : List ℕ) (b p : ℕ) → latest_from l (bit_at [] m b) ≡ Some p → (p < n) × Leaves hs p (bit_at [] m b)
-  pub links : (p q : ℕ) (h g : Hop) (o : Option ℕ) → p < n → slice_get hs p ≡ Some h → slice_get hs q ≡ Some g → bit g.from ≡ bit h.from → q < p → slice_get l.before.items p ≡ Some o → IsFrom o q
-  pub back : (p r : ℕ) (h : Hop) → slice_get hs p ≡ Some h → slice_get l.before.items p ≡ Some (Some r) → (r < p) × Leaves hs r (bit h.from)
+  pub latest : (q : ℕ) (h : Hop) → q < n → slice_get hs q ≡ Some h
+      → IsFrom (latest_from l (bit h.from)) q
+  pub heads : (m : List ℕ) (b p : ℕ) → latest_from l (bit_at [] m b) ≡ Some p
+      → (p < n) × Leaves hs p (bit_at [] m b)
+  pub links : (p q : ℕ) (h g : Hop) (o : Option ℕ)
+      → p < n → slice_get hs p ≡ Some h → slice_get hs q ≡ Some g → bit g.from ≡ bit h.from → q < p
+      → slice_get l.before.items p ≡ Some o → IsFrom o q
+  pub back : (p r : ℕ) (h : Hop) → slice_get hs p ≡ Some h
+      → slice_get l.before.items p ≡ Some (Some r) → (r < p) × Leaves hs r (bit h.from)

@@ -5,7 +5,8 @@ use Rattle.std.specs.declared.alloc.Global.{Global}
 use Rattle.hdl_tree.specs.declared.library.Entry.{Entry}
 use Rattle.hdl_tree.specs.Chips.{Chips}
 use Rattle.hdl_plans.specs.Loops.{IsLoop}
-use Rattle.hdl_loops.specs.Inner.Knowing.{IsRight}
+use Rattle.hdl_plans.specs.Ways.{TreeFits}
+use Rattle.hdl_loops.specs.Inner.Knowing.{IsRight, TreeClear}
 use Rattle.hdl_loops.specs.declared.known.Known.{Known}
 use Rattle.hdl_loops.specs.declared.find.Look.{Look}
 use Rattle.hdl_loops.specs.declared.find.Look.TheVariants as looks
@@ -19,3 +20,8 @@ LooksRight chips known entry (looks.Loop nets) = IsLoop chips entry nets.items
 abbrev pub TellsLoop : Chips → Entry → Option (Vec (List ℕ) Global) → Type 0
 TellsLoop chips chip None = Unit {0}
 TellsLoop chips chip (Some nets) = IsLoop chips chip nets.items
+
+-- the same of the last chip that is looked at, and without nets no chip in it has a circle of its own where the tree fits
+abbrev pub EndsLook : Chips → Entry → Option (Vec (List ℕ) Global) → Type 0
+EndsLook chips chip None = TreeFits chips chip → TreeClear chips chip
+EndsLook chips chip (Some nets) = IsLoop chips chip nets.items

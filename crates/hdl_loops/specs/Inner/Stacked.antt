@@ -23,15 +23,27 @@ StandsAt fs j k = (f : Frame) × (slice_get fs j ≡ Some f) × (f.chip ≡ k)
 pub record IsFrame (chips : Chips) (known : List (Option Known)) (top : ℕ) (fs : List Frame) (j : ℕ) (f : Frame) : Type 0 where
   pub there : f.chip < length chips.entries
   pub within : f.next ≤ length (parts_at chips f.chip)
-  pub no_end : (chip : Entry) → slice_get chips.entries f.chip ≡ Some chip → end_of chips.memories chip ≡ None
-  pub outward : (chip outer : Entry) (nets : List (List ℕ)) → slice_get chips.entries f.chip ≡ Some chip → slice_get chips.entries top ≡ Some outer → IsLoop chips chip nets → IsLoop chips outer nets
+  pub no_end : (chip : Entry) → slice_get chips.entries f.chip ≡ Some chip
+      → end_of chips.memories chip ≡ None
+  pub outward : (chip outer : Entry) (nets : List (List ℕ))
+      → slice_get chips.entries f.chip ≡ Some chip → slice_get chips.entries top ≡ Some outer
+      → IsLoop chips chip nets → IsLoop chips outer nets
   pub nests : NestsAt f.depth chips f.chip
-  pub done : (i : ℕ) (part : Part) (k : ℕ) → i < f.next → slice_get (parts_at chips f.chip) i ≡ Some part → place_of chips.entries part.chip ≡ Some k → IsDone chips known k ⊎ StandsAt fs (suc j) k
+  pub done : (i : ℕ) (part : Part) (k : ℕ) → i < f.next
+      → slice_get (parts_at chips f.chip) i ≡ Some part → place_of chips.entries part.chip ≡ Some k
+      → IsDone chips known k ⊎ StandsAt fs (suc j) k
 
 -- below all stands the top, until it is done
 pub record IsStack (chips : Chips) (known : List (Option Known)) (top : ℕ) (fs : List Frame) : Type 0 where
   pub frames : (j : ℕ) (f : Frame) → slice_get fs j ≡ Some f → IsFrame chips known top fs j f
   pub root : IsDone chips known top ⊎ StandsAt fs 0 top
+
+-- one chip alone stands on the stack, with no part left
+pub record HasOnlyLast (chips : Chips) (k : ℕ) (fs : List Frame) : Type 0 where
+  pub frame : Frame
+  pub alone : fs ≡ frame ∷ []
+  pub chip : frame.chip ≡ k
+  pub ended : length (parts_at chips k) ≤ frame.next
 
 -- ---- the steps that are left
 
@@ -60,7 +72,8 @@ pub record IsPushed (chips : Chips) (part : Part) (depth : ℕ) (old new : List 
   pub k : ℕ
   pub placed : place_of chips.entries part.chip ≡ Some k
   pub there : k < length chips.entries
-  pub no_end : (chip : Entry) → slice_get chips.entries k ≡ Some chip → end_of chips.memories chip ≡ None
+  pub no_end : (chip : Entry) → slice_get chips.entries k ≡ Some chip
+      → end_of chips.memories chip ≡ None
   pub more : new ≡ old ++ record { chip = k; next = 0; depth = depth } ∷ []
 
 abbrev pub IsEntered : Chips → List (Option Known) → Part → ℕ → List Frame → List Frame → Type 0

@@ -49,7 +49,8 @@ pub record IsNode (hs : List Hop) (t : Tree) (j : ℕ) (node : Node) : Type 0 wh
   pub own : place_in t (bit node.hop.to) ≡ Some j
   pub comes : Comes t node.before (bit node.hop.from)
   -- of the hops that lead to the bit it is one of the first
-  pub first : (q : ℕ) (g : Hop) (o : Option ℕ) → slice_get hs q ≡ Some g → bit g.to ≡ bit node.hop.to → Comes t o (bit g.from) → IsNoLater node.before o
+  pub first : (q : ℕ) (g : Hop) (o : Option ℕ) → slice_get hs q ≡ Some g
+      → bit g.to ≡ bit node.hop.to → Comes t o (bit g.from) → IsNoLater node.before o
 
 -- how many hops lead to what is not reached
 abbrev pub open_hops : Tree → List Hop → ℕ
@@ -58,15 +59,19 @@ open_hops t (h ∷ hs) = (if is_marked t (bit h.to) then 0 else 1) + open_hops t
 
 pub record IsTree (hs : List Hop) (t : Tree) : Type 0 where
   pub nodes : (j : ℕ) (node : Node) → slice_get t.nodes.items j ≡ Some node → IsNode hs t j node
-  pub places : (n : List ℕ) (b : ℕ) (j : ℕ) → place_in t (bit_at [] n b) ≡ Some j → (node : Node) × (slice_get t.nodes.items j ≡ Some node) × (bit node.hop.to ≡ bit_at [] n b)
+  pub places : (n : List ℕ) (b : ℕ) (j : ℕ) → place_in t (bit_at [] n b) ≡ Some j
+      → (node : Node) × (slice_get t.nodes.items j ≡ Some node) × (bit node.hop.to ≡ bit_at [] n b)
   pub few : length t.nodes.items + open_hops t hs ≤ length hs
 
 -- what was reached still is, from the same root
 pub record KeepsMarks (old new : Tree) : Type 0 where
   pub root : bit new.root ≡ bit old.root
-  pub nodes : (j : ℕ) (node : Node) → slice_get old.nodes.items j ≡ Some node → slice_get new.nodes.items j ≡ Some node
-  pub places : (n : List ℕ) (b j : ℕ) → place_in old (bit_at [] n b) ≡ Some j → place_in new (bit_at [] n b) ≡ Some j
-  pub marks : (n : List ℕ) (b : ℕ) → is_marked old (bit_at [] n b) ≡ true → is_marked new (bit_at [] n b) ≡ true
+  pub nodes : (j : ℕ) (node : Node) → slice_get old.nodes.items j ≡ Some node
+      → slice_get new.nodes.items j ≡ Some node
+  pub places : (n : List ℕ) (b j : ℕ) → place_in old (bit_at [] n b) ≡ Some j
+      → place_in new (bit_at [] n b) ≡ Some j
+  pub marks : (n : List ℕ) (b : ℕ) → is_marked old (bit_at [] n b) ≡ true
+      → is_marked new (bit_at [] n b) ≡ true
 
 -- where hop k leads is reached, if it goes on from what was
 abbrev pub IsFollowed : List Hop → ℕ → Tree → Tree → Type 0
@@ -79,7 +84,8 @@ IsLeft hs t x = (p : ℕ) (h : Hop) → slice_get hs p ≡ Some h → bit h.from
 -- where the hops that leave the root and the bits of the first n places lead is reached
 pub record LeftBelow (hs : List Hop) (t : Tree) (n : ℕ) : Type 0 where
   pub root : IsLeft hs t (bit t.root)
-  pub nodes : (j : ℕ) (node : Node) → j < n → slice_get t.nodes.items j ≡ Some node → IsLeft hs t (bit node.hop.to)
+  pub nodes : (j : ℕ) (node : Node) → j < n → slice_get t.nodes.items j ≡ Some node
+      → IsLeft hs t (bit node.hop.to)
 
 -- all that stands before a bit is so
 abbrev pub LeftBefore : List Hop → Tree → BitAt → Type 0

@@ -1,4 +1,4 @@
-use Rattle.std.proofs.Common.{◌≡◌, ℕ, ◌++◌, List, length, Option, Some, None, refl, sym, ap, subst, ◌∙◌}
+use Rattle.std.proofs.Common.{ℕ, ◌++◌, List, length, Option, refl, sym, ap, subst, ◌∙◌}
 use Rattle.hdl_tree.specs.declared.ends.End.{End}
 use Rattle.hdl_flatten.specs.Inner.Putting.{IsEndFed, end_puts, end_blocks}
 use Rattle.hdl_flatten.specs.Inner.Unfinished.{IsBegunBy}
@@ -20,7 +20,7 @@ returns-in-Some c =
       record {
         nodes = f ∙ ap (λ (is : List ℕ). old.nodes.items ++ end_puts c.in-Some.end is (length old.blocks.items)) fed;
         blocks = g ∙ ap (λ (is : List ℕ). old.blocks.items ++ end_blocks c.in-Some.end is) fed;
-        parts = ap (λ v. v.items) c.put_end.ensures.parts;
+        parts = c.put_end.ensures.parts;
       },
       refl,
     ))

@@ -202,7 +202,7 @@ returns-clause-pending c =
     let block : listed.block ≡ block_at y.end (length now.blocks.items) = c.in_ok-listed.ensures.block ∙ ap (block_at y.end) (ap length c.as_slice-2.ensures.value) in
     let name : listed.chip ≡ y.entry.now.name = c.in_ok-listed.ensures.chip y.entry.now (head_entry chips plans o.place o.plan u.inputs.items o.old now q qs h y c.index-plans-part.is) in
     entered_next chips plans c.requires.plans c.requires.ends task q.place y nodes mid c.enter.new.flat (v ∷ t.below) c.push-2.new.stack.items c.enter.new.stack.items (head_may chips plans o.place o.plan u.inputs.items o.old now q qs h nodes mid fed refl refl) c.index-plans-part.is (c.in_ok-push-2.ensures ∙ ap (λ (us : List Unfinished). us ++ v ∷ []) t.items_are)
-    (λ x put. carried chips plans c.requires.plans c.requires.ends task now mid x u v t.below o q qs h y c.index-plans-part.is nodes listed refl refl refl fed refl refl c.in_ok-push.ensures.items name outs block t.pending.1 put) b)
+    (λ x put. carried chips plans c.requires.plans c.requires.ends task now mid x u v t.below o q qs h y c.index-plans-part.is nodes listed refl refl refl fed refl refl c.in_ok-push.ensures name outs block t.pending.1 put) b)
 
 pub returns-clause-less : goal.returns-clause-less
 returns-clause-less c =

@@ -3,7 +3,7 @@ use Rattle.std.specs.Prelude.{slice_get}
 use Rattle.std.proofs.lemmas.Result.{IfOk-weaker}
 use Rattle.hdl_loops.specs.Inner.Knowing.{KnowNothing}
 use Rattle.hdl_loops.specs.declared.known.Known.{Known}
-use Rattle.hdl_loops.proofs.Tops.{top_has_none, top_nests, none_of}
+use Rattle.hdl_loops.proofs.Tops.{top_has_none, top_nests}
 use Rattle.hdl_loops.proofs.Outward.{top_has_loop}
 use Rattle.hdl_loops.proofs.find.find_loop.Goals as goal
 
@@ -18,8 +18,9 @@ find_in-requires-clause-nests c = top_nests c.as_slice-entries.result.now c.args
 
 pub returns-clause-none : goal.returns-clause-none
 returns-clause-none c =
-    none_of c.find_in.result c.find_in.ensures.right c.find_in.ensures.done
-    (top_has_none c.as_slice-entries.result.now c.args.library.now.entries c.args.memories c.find_in.new.known c.in-Some.k c.as_bytes.result.now c.args.top.now c.as_slice-entries.ensures c.as_bytes.ensures (c.in-Some.ensures.found c.as_slice-entries.result.now c.in_ok-places.ensures).1 c.requires)
+    IfOk-weaker c.find_in.result _ _
+    (λ r h none. top_has_none c.as_slice-entries.result.now c.args.library.now.entries c.args.memories c.in-Some.k c.as_bytes.result.now c.args.top.now c.as_slice-entries.ensures c.as_bytes.ensures (c.in-Some.ensures.found c.as_slice-entries.result.now c.in_ok-places.ensures).1 c.requires (h none))
+    c.find_in.ensures.none
 
 pub returns-clause-told : goal.returns-clause-told
 returns-clause-told c =

@@ -1,4 +1,4 @@
-use Rattle.std.proofs.Common.{◌≡◌, ℕ, ◌<◌, Option, Some, length, ap, subst, ◌∙◌, arith}
+use Rattle.std.proofs.Common.{ℕ, ◌<◌, Option, length, ap, subst, ◌∙◌, arith}
 use Rattle.hdl_check.specs.Whole.{chips_in}
 use Rattle.hdl_loops.specs.Inner.Knowing.{leaps_at, place_of, AddsLeaps}
 use Rattle.hdl_loops.proofs.Pinning.{adds_nothing}

@@ -1,4 +1,4 @@
-use Rattle.std.proofs.Common.{◌≡◌, [], map, ap, ◌∙◌}
+use Rattle.std.proofs.Common.{[], map, ap, ◌∙◌}
 use Rattle.hdl_plans.specs.Loops.{bit_at}
 use Rattle.hdl_loops.specs.Inner.Hops.{turn}
 use Rattle.hdl_loops.proofs.Pairing.{turned_twice, way_back, way_forth}
