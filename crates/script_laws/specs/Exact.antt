@@ -34,12 +34,19 @@ SameButNets setting line line' = (line ≡ line') ⊎ AreLoops setting line line
 -- What a script puts on out and on err is one thing, and whether it compared lines. It is refused with one line at most, but for the nets of a loop,
 -- and differs in one line at most. It is not two of done, refused and different.
 pub record ScriptIsExact (setting : Setting) : Type 0 where
-  pub done : (out err out' err' : List ℕ) (b b' : Bool) → HasCompared setting out err b → HasCompared setting out' err' b' → (out ≡ out') × (err ≡ err') × (b ≡ b')
-  pub refused : (out before line out' before' line' : List ℕ) → IsRefused setting out before line → IsRefused setting out' before' line' → (out ≡ out') × (before ≡ before') × SameButNets setting line line'
-  pub differs : (out before line out' before' line' : List ℕ) → IsDifferent setting out before line → IsDifferent setting out' before' line' → (out ≡ out') × (before ≡ before') × (line ≡ line')
-  pub done_or_refused : (out err out' before line : List ℕ) → IsDone setting out err → IsRefused setting out' before line → ⊥
-  pub done_or_differs : (out err out' before line : List ℕ) → IsDone setting out err → IsDifferent setting out' before line → ⊥
-  pub refused_or_differs : (out before line out' before' line' : List ℕ) → IsRefused setting out before line → IsDifferent setting out' before' line' → ⊥
+  pub done : (out err out' err' : List ℕ) (b b' : Bool) → HasCompared setting out err b
+      → HasCompared setting out' err' b' → (out ≡ out') × (err ≡ err') × (b ≡ b')
+  pub refused : (out before line out' before' line' : List ℕ)
+      → IsRefused setting out before line → IsRefused setting out' before' line'
+      → (out ≡ out') × (before ≡ before') × SameButNets setting line line'
+  pub differs : (out before line out' before' line' : List ℕ) → IsDifferent setting out before line
+      → IsDifferent setting out' before' line' → (out ≡ out') × (before ≡ before') × (line ≡ line')
+  pub done_or_refused : (out err out' before line : List ℕ) → IsDone setting out err
+      → IsRefused setting out' before line → ⊥
+  pub done_or_differs : (out err out' before line : List ℕ) → IsDone setting out err
+      → IsDifferent setting out' before line → ⊥
+  pub refused_or_differs : (out before line out' before' line' : List ℕ)
+      → IsRefused setting out before line → IsDifferent setting out' before' line' → ⊥
 
 -- over known files
 abbrev pub ScriptExactLaw : Type 0

@@ -2,6 +2,7 @@
 use Rattle.std.proofs.Common.{◌≡◌, ◌≤◌, ◌+◌, ◌-◌, ◌%◌, ◌++◌, ℕ, List, Option, length, take, drop, refl, sym, ◌∙◌, ap, arith, inl, inr, length-take, length-drop, length-append}
 use Rattle.std.proofs.lemmas.Bool.{cases_lt}
 use Rattle.std.proofs.lemmas.List.{take_all, drop_all}
+use Rattle.outer_world.specs.State.{SinkState}
 use Rattle.outer_world.specs.Written.{Got, Passes}
 use Rattle.outer_world.specs.declared.sink.Put.{Put}
 use Rattle.outer_world.specs.declared.sink.Put.TheVariants as put
@@ -53,11 +54,11 @@ whole_went n xs e = elim (cases_lt n (length xs)) [
 ]
 
 -- What a buffer that passes pieces on says of a text that it was handed.
-pub PutsBehind-pieces : (a b c : Option (List ℕ)) (front text p p' : List ℕ) (result : Put)
+pub PutsBehind-pieces : (a : Option (List ℕ)) (b c : SinkState) (front text p p' : List ℕ) (result : Put)
     → Passes b p c p' text result → (result ≡ put.Done → length p' ≡ (length p + length text) % 4096)
-    → HasPassed a b p front → PutsBehind a c p' front text result
+    → HasPassed a b.written p front → PutsBehind a c.written p' front text result
 PutsBehind-pieces a b c front text p p' put.Done passes left h =
     let rest = passes.rest refl in
     let all = whole_went passes.n (p ++ text) (sym (ap length rest) ∙ left refl ∙ ap (λ k. k % 4096) (sym (length-append p text))) in
-    HasPassed-then a b c front text p p' (whole (p ++ text)) h refl (Got-same b c _ _ all.0 passes.went) (rest ∙ all.1)
-PutsBehind-pieces a b c front text p p' put.Failed passes left h = HasPassed-cut a b c front text p passes.n h passes.went
+    HasPassed-then a b.written c.written front text p p' (whole (p ++ text)) h refl (Got-same b.written c.written _ _ all.0 passes.went) (rest ∙ all.1)
+PutsBehind-pieces a b c front text p p' put.Failed passes left h = HasPassed-cut a b.written c.written front text p passes.n h passes.went

@@ -1,7 +1,8 @@
 -- What a call that runs a script says. (The book, appendix 3.)
-use Rattle.std.specs.Prelude.{◌≡◌, ◌⊎◌, ℕ, Bool, true, false, List, [], Option, Result, Ok, Err, codes}
+use Rattle.std.specs.Prelude.{◌≡◌, ◌⊎◌, ℕ, Bool, true, false, List, [], Result, Ok, Err, codes}
 use Rattle.outer_world.specs.Faults.{Rose}
 use Rattle.outer_world.specs.Refusals.{message, message_line}
+use Rattle.outer_world.specs.State.{SinkState}
 use Rattle.outer_world.specs.Written.{Got}
 use Rattle.source_files.specs.Loads.{line_of}
 use Rattle.source_files.specs.declared.error.LoadError.TheVariants as loads
@@ -29,12 +30,12 @@ module _ (setting : Setting) (there : List ℕ → Bool) (unfailing : Type 0) wh
   Leaves o e (Err errors.Out) = OutIsCut setting o e
   Leaves o e (Err errors.Err) = EchoIsCut setting o e
 
-  abbrev pub Runs : Option (List ℕ) → Option (List ℕ) → Option (List ℕ) → Option (List ℕ) → Result Verdict ScriptError → Type 0
-  Runs out out' err err' result = (o : List ℕ) × (e : List ℕ) × Leaves o e result × Got out out' o × Got err err' e
+  abbrev pub Runs : SinkState → SinkState → SinkState → SinkState → Result Verdict ScriptError → Type 0
+  Runs out out' err err' result = (o : List ℕ) × (e : List ℕ) × Leaves o e result × Got out.written out'.written o × Got err.written err'.written e
 
 -- What it says of the counts of faults of shelf, out and err; where out fails after a fault of the shelf, both have risen.
-abbrev pub CountsScript : ℕ → ℕ → ℕ → ℕ → ℕ → ℕ → Result Verdict ScriptError → Type 0
-CountsScript shelf shelf' out out' err err' (Err (errors.Unloaded loads.Failed)) = Rose shelf shelf' × (out' ≡ out) × (err' ≡ err)
-CountsScript shelf shelf' out out' err err' (Err errors.Out) = ((shelf' ≡ shelf) ⊎ Rose shelf shelf') × Rose out out' × (err' ≡ err)
-CountsScript shelf shelf' out out' err err' (Err errors.Err) = (shelf' ≡ shelf) × (out' ≡ out) × Rose err err'
-CountsScript shelf shelf' out out' err err' _ = (shelf' ≡ shelf) × (out' ≡ out) × (err' ≡ err)
+abbrev pub CountsScript : ℕ → ℕ → SinkState → SinkState → SinkState → SinkState → Result Verdict ScriptError → Type 0
+CountsScript shelf shelf' out out' err err' (Err (errors.Unloaded loads.Failed)) = Rose shelf shelf' × (out'.faults ≡ out.faults) × (err'.faults ≡ err.faults)
+CountsScript shelf shelf' out out' err err' (Err errors.Out) = ((shelf' ≡ shelf) ⊎ Rose shelf shelf') × Rose out.faults out'.faults × (err'.faults ≡ err.faults)
+CountsScript shelf shelf' out out' err err' (Err errors.Err) = (shelf' ≡ shelf) × (out'.faults ≡ out.faults) × Rose err.faults err'.faults
+CountsScript shelf shelf' out out' err err' _ = (shelf' ≡ shelf) × (out'.faults ≡ out.faults) × (err'.faults ≡ err.faults)

@@ -87,9 +87,10 @@ fn compare(line: &[u8], state: &mut State) -> Result<(), Stop>
 fn put_behind<O: Sink>(text: &[u8], out: &mut Pieces<'_, O>) -> Put
     ensures same_sink { HaveSameSink out.old out.new }
     ensures puts { (before : Option (List ℕ)) (front : List ℕ)
-        → HasPassed before (O.written (sink_of out.old)) (pending out.old) front
-        → PutsBehind before (O.written (sink_of out.new)) (pending out.new) front text.now result }
-    ensures counts { CountsPut (O.faults (sink_of out.old)) (O.faults (sink_of out.new)) result }
+        → HasPassed before (O.state (sink_of out.old)).written (pending out.old) front → PutsBehind
+        before (O.state (sink_of out.new)).written (pending out.new) front text.now result }
+    ensures counts { CountsPut (O.state (sink_of out.old)).faults
+        (O.state (sink_of out.new)).faults result }
 {
     out.put(text)
 }
@@ -98,10 +99,10 @@ fn put_behind<O: Sink>(text: &[u8], out: &mut Pieces<'_, O>) -> Put
 fn put_line<O: Sink>(line: Vec<u8>, state: &mut State, out: &mut Pieces<'_, O>) -> Result<(), Stop>
     requires { (r : Standing) × IsState state.old r }
     ensures puts { (w e f : Option (List ℕ)) (r : Standing) → IsState state.old r
-        → StandsThere w (O.written (sink_of out.old)) e f (pending out.old) r → PutsOut w
-        (O.written (sink_of out.new)) e f (pending out.new) r line.items state.new result }
-    ensures counts { (h e : ℕ)
-        → CountsStop h h (O.faults (sink_of out.old)) (O.faults (sink_of out.new)) e e result }
+        → StandsThere w (O.state (sink_of out.old)).written e f (pending out.old) r → PutsOut w
+        (O.state (sink_of out.new)).written e f (pending out.new) r line.items state.new result }
+    ensures counts { (h e : ℕ) → CountsStop h h (O.state (sink_of out.old)).faults
+        (O.state (sink_of out.new)).faults e e result }
     ensures same_sink { HaveSameSink out.old out.new }
 {
     if state.lines == u64::MAX {
@@ -133,12 +134,12 @@ fn put_values<O: Sink>(
 ) -> Result<(), Stop>
     requires { (s : Standing) × IsState state.old s }
     ensures does { (setting : Setting) (there : List ℕ → Bool)
-        (w e f : Option (List ℕ)) (s : Standing)
-        → IsState state.old s → StandsThere w (O.written (sink_of out.old)) e f (pending out.old) s
-        → Performs setting there ⊥ w (O.written (sink_of out.new)) e f (pending out.new) s
+        (w e f : Option (List ℕ)) (s : Standing) → IsState state.old s
+        → StandsThere w (O.state (sink_of out.old)).written e f (pending out.old) s
+        → Performs setting there ⊥ w (O.state (sink_of out.new)).written e f (pending out.new) s
         (acts.Step Step.Output) state.new result }
-    ensures counts { (h e : ℕ)
-        → CountsStop h h (O.faults (sink_of out.old)) (O.faults (sink_of out.new)) e e result }
+    ensures counts { (h e : ℕ) → CountsStop h h (O.state (sink_of out.old)).faults
+        (O.state (sink_of out.new)).faults e e result }
     ensures same_sink { HaveSameSink out.old out.new }
 {
     let line = values_line(alloc, &state.device, &state.columns)?;
@@ -153,12 +154,12 @@ fn do_step<O: Sink>(
 ) -> Result<(), Stop>
     requires { (s : Standing) × IsState state.old s }
     ensures does { (setting : Setting) (there : List ℕ → Bool)
-        (w e f : Option (List ℕ)) (s : Standing)
-        → IsState state.old s → StandsThere w (O.written (sink_of out.old)) e f (pending out.old) s
-        → Performs setting there ⊥ w (O.written (sink_of out.new)) e f (pending out.new) s
+        (w e f : Option (List ℕ)) (s : Standing) → IsState state.old s
+        → StandsThere w (O.state (sink_of out.old)).written e f (pending out.old) s
+        → Performs setting there ⊥ w (O.state (sink_of out.new)).written e f (pending out.new) s
         (acts.Step step) state.new result }
-    ensures counts { (h e : ℕ)
-        → CountsStop h h (O.faults (sink_of out.old)) (O.faults (sink_of out.new)) e e result }
+    ensures counts { (h e : ℕ) → CountsStop h h (O.state (sink_of out.old)).faults
+        (O.state (sink_of out.new)).faults e e result }
     ensures same_sink { HaveSameSink out.old out.new }
 {
     match step {
@@ -211,12 +212,12 @@ fn do_list<O: Sink>(
 ) -> Result<(), Stop>
     requires { (s : Standing) × IsState state.old s }
     ensures does { (setting : Setting) (there : List ℕ → Bool)
-        (w e f : Option (List ℕ)) (s : Standing) → setting.path ≡ path.now
-        → IsState state.old s → StandsThere w (O.written (sink_of out.old)) e f (pending out.old) s
-        → Performs setting there ⊥ w (O.written (sink_of out.new)) e f (pending out.new) s
+        (w e f : Option (List ℕ)) (s : Standing) → setting.path ≡ path.now → IsState state.old s
+        → StandsThere w (O.state (sink_of out.old)).written e f (pending out.old) s
+        → Performs setting there ⊥ w (O.state (sink_of out.new)).written e f (pending out.new) s
         (acts.OutputList items.now) state.new result }
-    ensures counts { (h e : ℕ)
-        → CountsStop h h (O.faults (sink_of out.old)) (O.faults (sink_of out.new)) e e result }
+    ensures counts { (h e : ℕ) → CountsStop h h (O.state (sink_of out.old)).faults
+        (O.state (sink_of out.new)).faults e e result }
     ensures same_sink { HaveSameSink out.old out.new }
 {
     let columns = columns_of(alloc, path, &state.device, items)?;
@@ -244,15 +245,15 @@ fn do_set(
 }
 
 fn put_echo<E: Sink>(text: &[u8], err: &mut E) -> Put
-    ensures put { Puts (E.written err.old) (E.written err.new) (text.now ++ 10 ∷ []) result }
-    ensures counts { CountsPut (E.faults err.old) (E.faults err.new) result }
+    ensures put { Puts (E.state err.old) (E.state err.new) (text.now ++ 10 ∷ []) result }
 {
     put_through(&[text, b"\n"], err)
 }
 
 fn do_echo<E: Sink>(text: &[u8], err: &mut E) -> Result<(), Stop>
-    ensures puts { PutsEcho (E.written err.old) (E.written err.new) text.now result }
-    ensures counts { (h o : ℕ) → CountsStop h h o o (E.faults err.old) (E.faults err.new) result }
+    ensures puts { PutsEcho (E.state err.old).written (E.state err.new).written text.now result }
+    ensures counts { (h o : ℕ)
+        → CountsStop h h o o (E.state err.old).faults (E.state err.new).faults result }
 {
     match put_echo(text, err) {
         Put::Done => Ok(()),
@@ -348,16 +349,17 @@ pub fn perform<F: Shelf, O: Sink, E: Sink>(
     out: &mut Pieces<'_, O>,
     err: &mut E,
 ) -> Result<(), Stop>
-    requires { (w e : Option (List ℕ)) × ((s : Standing) × IsState state.old s
-        × StandsThere w (O.written (sink_of out.old)) e (E.written err.old) (pending out.old) s) }
-    ensures does { (w e : Option (List ℕ)) (s : Standing) → IsState state.old s
-        → StandsThere w (O.written (sink_of out.old)) e (E.written err.old) (pending out.old) s
-        → Performs (setting_of script.entry.path.now (F.state shelf.old).files script.entry.memories)
-        (F.state shelf.old).there (F.state shelf.old).unfailing w (O.written (sink_of out.new)) e
-        (E.written err.new) (pending out.new) s act.now state.new result }
-    ensures counts { CountsStop (F.faults shelf.old) (F.faults shelf.new)
-        (O.faults (sink_of out.old)) (O.faults (sink_of out.new)) (E.faults err.old)
-        (E.faults err.new) result }
+    requires { (w e : Option (List ℕ)) × ((s : Standing) × IsState state.old s × StandsThere w
+        (O.state (sink_of out.old)).written e (E.state err.old).written (pending out.old) s) }
+    ensures does { (w e : Option (List ℕ)) (s : Standing)
+        → IsState state.old s → StandsThere w (O.state (sink_of out.old)).written e
+        (E.state err.old).written (pending out.old) s → Performs (setting_of script.entry.path.now
+        (F.state shelf.old).files script.entry.memories) (F.state shelf.old).there
+        (F.state shelf.old).unfailing w (O.state (sink_of out.new)).written e
+        (E.state err.new).written (pending out.new) s act.now state.new result }
+    ensures counts { CountsStop (F.faults shelf.old)
+        (F.faults shelf.new) (O.state (sink_of out.old)).faults (O.state (sink_of out.new)).faults
+        (E.state err.old).faults (E.state err.new).faults result }
     ensures same_sink { HaveSameSink out.old out.new }
     ensures keeps { Keeps (F.state shelf.old) (F.state shelf.new) }
 {

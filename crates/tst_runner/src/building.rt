@@ -152,6 +152,13 @@ fn driven_chip(
     }
 }
 
+// The netlist of an elaborated chip, whose own directory is no more.
+fn net_of(e: Elab) -> Netlist
+    ensures { result ≡ e.net }
+{
+    e.net
+}
+
 // An elaborated chip with its directory, evaluated once.
 fn evaluated(
     alloc: Global,
@@ -177,7 +184,7 @@ fn evaluated(
     ensures start { IfOk result (λ chip. time_of chip ≡ 0) }
 {
     let directory = directory_of(alloc, library, top, &e)?;
-    let Elab { net, .. } = e;
+    let net = net_of(e);
     net.ordered_law();
     let mut chip = driven_chip(alloc, net, directory, simplify)?;
     chip.eval();

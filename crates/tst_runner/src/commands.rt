@@ -27,18 +27,18 @@ fn run_command<F: Shelf, O: Sink, E: Sink>(
     out: &mut Pieces<'_, O>,
     err: &mut E,
 ) -> Result<(), Stop>
-    requires { (w e : Option (List ℕ)) × ((s : Standing) × IsState state.old s
-        × StandsThere w (O.written (sink_of out.old)) e (E.written err.old) (pending out.old) s) }
-    ensures does { (w e : Option (List ℕ)) (s : Standing) → IsState state.old s
-        → StandsThere w (O.written (sink_of out.old)) e (E.written err.old) (pending out.old) s
-        → PerformsAll
+    requires { (w e : Option (List ℕ)) × ((s : Standing) × IsState state.old s × StandsThere w
+        (O.state (sink_of out.old)).written e (E.state err.old).written (pending out.old) s) }
+    ensures does { (w e : Option (List ℕ)) (s : Standing)
+        → IsState state.old s → StandsThere w (O.state (sink_of out.old)).written e
+        (E.state err.old).written (pending out.old) s → PerformsAll
         (setting_of script.entry.path.now (F.state shelf.old).files script.entry.memories)
         (F.state shelf.old).there (F.state shelf.old).unfailing w
-        (O.written (sink_of out.new)) e (E.written err.new) (pending out.new) s
+        (O.state (sink_of out.new)).written e (E.state err.new).written (pending out.new) s
         (acts_of (with_command command.now End)) state.new result }
-    ensures counts { CountsStop (F.faults shelf.old) (F.faults shelf.new)
-        (O.faults (sink_of out.old)) (O.faults (sink_of out.new)) (E.faults err.old)
-        (E.faults err.new) result }
+    ensures counts { CountsStop (F.faults shelf.old)
+        (F.faults shelf.new) (O.state (sink_of out.old)).faults (O.state (sink_of out.new)).faults
+        (E.state err.old).faults (E.state err.new).faults result }
     ensures same_sink { HaveSameSink out.old out.new }
     ensures keeps { Keeps (F.state shelf.old) (F.state shelf.new) }
 {
@@ -64,18 +64,18 @@ pub fn run_commands<F: Shelf, O: Sink, E: Sink>(
     out: &mut Pieces<'_, O>,
     err: &mut E,
 ) -> Result<(), Stop>
-    requires { (w e : Option (List ℕ)) × ((s : Standing) × IsState state.old s
-        × StandsThere w (O.written (sink_of out.old)) e (E.written err.old) (pending out.old) s) }
-    ensures does { (w e : Option (List ℕ)) (s : Standing) → IsState state.old s
-        → StandsThere w (O.written (sink_of out.old)) e (E.written err.old) (pending out.old) s
-        → PerformsAll
+    requires { (w e : Option (List ℕ)) × ((s : Standing) × IsState state.old s × StandsThere w
+        (O.state (sink_of out.old)).written e (E.state err.old).written (pending out.old) s) }
+    ensures does { (w e : Option (List ℕ)) (s : Standing)
+        → IsState state.old s → StandsThere w (O.state (sink_of out.old)).written e
+        (E.state err.old).written (pending out.old) s → PerformsAll
         (setting_of script.entry.path.now (F.state shelf.old).files script.entry.memories)
         (F.state shelf.old).there (F.state shelf.old).unfailing w
-        (O.written (sink_of out.new)) e (E.written err.new) (pending out.new) s
+        (O.state (sink_of out.new)).written e (E.state err.new).written (pending out.new) s
         (acts_of (commands_of commands.now)) state.new result }
-    ensures counts { CountsStop (F.faults shelf.old) (F.faults shelf.new)
-        (O.faults (sink_of out.old)) (O.faults (sink_of out.new)) (E.faults err.old)
-        (E.faults err.new) result }
+    ensures counts { CountsStop (F.faults shelf.old)
+        (F.faults shelf.new) (O.state (sink_of out.old)).faults (O.state (sink_of out.new)).faults
+        (E.state err.old).faults (E.state err.new).faults result }
     ensures same_sink { HaveSameSink out.old out.new }
     ensures keeps { Keeps (F.state shelf.old) (F.state shelf.new) }
 {

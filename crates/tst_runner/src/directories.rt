@@ -5,12 +5,13 @@ ghost use Rattle.std.specs.List.{All, Contains};
 ghost use Rattle.hdl_tree.specs.Chips.{find_entry, pin_width};
 ghost use Rattle.hdl_check.specs.Inner.Progress.{IsCatalog};
 ghost use Rattle.hdl_check.specs.Whole.{AreDistinct};
+ghost use Rattle.hdl_flatten.specs.Kept.{part_listed};
 ghost use Rattle.script_device.specs.Directory.{part_named};
 ghost use Rattle.tst_runner.specs.Directories.{IsDirectory, first_part, out_among, part_nodes, pin_nodes};
 
 use hdl_check::Catalog;
 use hdl_elab::Elab;
-use hdl_flatten::{PartAt, PinAt};
+use hdl_flatten::{ListedPart, Parts, PinAt};
 use hdl_tree::{Entry, Library, List, Memories, Pin};
 use name_table::Table;
 use script_device::{Directory, PartNodes, PinNodes};
@@ -92,16 +93,17 @@ pub fn entry_named<'a>(entries: &'a [Entry], name: &[u8]) -> Option<&'a Entry>
 fn out_of<'a>(
     alloc: Global,
     catalog: &Catalog<'a>,
-    part: &'a PartAt,
+    part: ListedPart<'a>,
 ) -> Result<Option<List<u32>>, AllocError>
     requires { IsCatalog catalog.now }
-    ensures { IfOk result (λ out. out ≡ (part_nodes catalog.now.entries.now part.now).out) }
+    ensures { IfOk result
+        (λ out. out ≡ (part_nodes catalog.now.entries.now (part_listed part.entry)).out) }
 {
     let Some(k) = catalog.place(part.chip.as_bytes()) else {
         return Ok(None);
     };
     let entry = &catalog.entries[k];
-    match out_among(entry.chip.outputs.as_slice(), part.outs.as_slice()) {
+    match out_among(entry.chip.outputs.as_slice(), part.outs) {
         None => Ok(None),
         Some(nodes) => Ok(Some(copied(alloc, nodes)?)),
     }
@@ -111,10 +113,10 @@ fn out_of<'a>(
 pub fn part_nodes<'a>(
     alloc: Global,
     catalog: &Catalog<'a>,
-    part: &'a PartAt,
+    part: ListedPart<'a>,
 ) -> Result<PartNodes, AllocError>
     requires { IsCatalog catalog.now }
-    ensures { IfOk result (λ p. p ≡ part_nodes catalog.now.entries.now part.now) }
+    ensures { IfOk result (λ p. p ≡ part_nodes catalog.now.entries.now (part_listed part.entry)) }
 {
     Ok(PartNodes {
         chip: part.chip.clone()?,
@@ -127,7 +129,7 @@ pub fn part_nodes<'a>(
 pub fn first_parts<'a>(
     alloc: Global,
     catalog: &Catalog<'a>,
-    parts: &'a [PartAt],
+    parts: &'a Parts,
 ) -> Result<List<PartNodes>, AllocError>
     requires { IsCatalog catalog.now }
     ensures first { IfOk result (λ l. (name : List ℕ)
@@ -137,7 +139,8 @@ pub fn first_parts<'a>(
 {
     let mut named = Vec::new(alloc);
     let mut seen = Table::new(alloc);
-    for part in parts {
+    for k in 0..parts.len() {
+        let part = parts.get(k);
         let new = seen.enter(part.chip.as_bytes(), ())?;
         if new {
             named.push(part_nodes(alloc, catalog, part)?)?;
@@ -150,7 +153,7 @@ pub fn first_parts<'a>(
 fn parts_named<'a>(
     alloc: Global,
     library: &'a Library,
-    parts: &'a [PartAt],
+    parts: &'a Parts,
 ) -> Result<List<PartNodes>, AllocError>
     requires { AreDistinct library.now.entries }
     ensures first { IfOk result
@@ -178,6 +181,6 @@ pub fn directory_of(
     Ok(Directory {
         inputs: all_pins(alloc, inputs)?,
         outputs: all_pins(alloc, outputs)?,
-        parts: parts_named(alloc, library, e.parts.as_slice())?,
+        parts: parts_named(alloc, library, &e.parts)?,
     })
 }

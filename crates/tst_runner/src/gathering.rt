@@ -306,7 +306,8 @@ pub fn gather<F: Shelf>(
     shelf: &mut F,
 ) -> Result<Library, LoadError>
     ensures loads { Loads (λ (library : Library).
-        HasGathered (setting_of path.now (F.state shelf.old).files memories) name.now library.entries)
+        HasGathered (setting_of path.now (F.state shelf.old).files memories) name.now
+        library.entries)
         (HasFailed (setting_of path.now (F.state shelf.old).files memories) name.now)
         (MissesFolder (F.state shelf.old) (folder_of path.now)) result }
     ensures sound { IfOk result (λ library. IsSound library.entries) }

@@ -64,7 +64,8 @@ fn load_machine<F: Shelf>(
         (IsNoImage
         (setting_of script.entry.path.now (F.state shelf.old).files script.entry.memories) file.now)
         (MissesFile (F.state shelf.old) (path_of
-        (setting_of script.entry.path.now (F.state shelf.old).files script.entry.memories) file.now))
+        (setting_of script.entry.path.now (F.state shelf.old).files script.entry.memories)
+        file.now))
         result }
     ensures counts { CountsLoad (F.faults shelf.old) (F.faults shelf.new) result }
     ensures keeps { Keeps (F.state shelf.old) (F.state shelf.new) }

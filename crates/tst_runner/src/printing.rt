@@ -3,7 +3,7 @@
 ghost use Rattle.std.specs.Prelude.{◌≡◌, []};
 ghost use Rattle.std.specs.List.{flat_map};
 ghost use Rattle.outer_world.specs.Held.{HaveSameSink, pending, sink_of};
-ghost use Rattle.outer_world.specs.Written.{CountsPut, Puts};
+ghost use Rattle.outer_world.specs.Written.{Puts};
 
 use outer_world::{Pieces, Put, Sink};
 
@@ -11,10 +11,8 @@ use outer_world::{Pieces, Put, Sink};
 fn put_parts<S: Sink>(parts: &[&[u8]], pieces: &mut Pieces<'_, S>) -> Put
     requires { pending pieces.old ≡ [] }
     ensures same_sink { HaveSameSink pieces.old pieces.new }
-    ensures put { Puts (S.written (sink_of pieces.old)) (S.written (sink_of pieces.new))
+    ensures put { Puts (S.state (sink_of pieces.old)) (S.state (sink_of pieces.new))
         (flat_map (λ part. part.now) parts.now) result }
-    ensures counts { CountsPut (S.faults (sink_of pieces.old))
-        (S.faults (sink_of pieces.new)) result }
 {
     match pieces.put_all(parts) {
         Put::Done => pieces.finish(),
@@ -24,9 +22,8 @@ fn put_parts<S: Sink>(parts: &[&[u8]], pieces: &mut Pieces<'_, S>) -> Put
 
 /// Puts these parts.
 pub(crate) fn put_through<S: Sink>(parts: &[&[u8]], sink: &mut S) -> Put
-    ensures put { Puts (S.written sink.old) (S.written sink.new)
+    ensures put { Puts (S.state sink.old) (S.state sink.new)
         (flat_map (λ part. part.now) parts.now) result }
-    ensures counts { CountsPut (S.faults sink.old) (S.faults sink.new) result }
 {
     let mut pieces = Pieces::new(sink);
     put_parts(parts, &mut pieces)

@@ -82,9 +82,8 @@ fn finish<O: Sink>(
     outlet: &mut Pieces<'_, O>,
 ) -> Result<Verdict, ScriptError>
     ensures same_sink { HaveSameSink outlet.old outlet.new }
-    ensures finishes { Finishes (is_cut end) (O.written (sink_of outlet.old))
-        (O.written (sink_of outlet.new)) (pending outlet.old) (O.faults (sink_of outlet.old))
-        (O.faults (sink_of outlet.new)) (verdict_of end compares) result }
+    ensures finishes { Finishes (is_cut end) (O.state (sink_of outlet.old))
+        (O.state (sink_of outlet.new)) (pending outlet.old) (verdict_of end compares) result }
 {
     if is_cut(&end) {
         return verdict_of(end, compares);
@@ -109,11 +108,11 @@ fn run_into<F: Shelf, O: Sink, E: Sink>(
     ensures runs { HasActs (setting_of script.entry.path.now
         (F.state shelf.old).files script.entry.memories) (acts_of (commands_of commands.now))
         → Runs (setting_of script.entry.path.now (F.state shelf.old).files script.entry.memories)
-        (F.state shelf.old).there (F.state shelf.old).unfailing (O.written (sink_of outlet.old))
-        (O.written (sink_of outlet.new)) (E.written err.old) (E.written err.new) result }
+        (F.state shelf.old).there (F.state shelf.old).unfailing (O.state (sink_of outlet.old))
+        (O.state (sink_of outlet.new)) (E.state err.old) (E.state err.new) result }
     ensures counts { CountsScript (F.faults shelf.old) (F.faults shelf.new)
-        (O.faults (sink_of outlet.old)) (O.faults (sink_of outlet.new)) (E.faults err.old)
-        (E.faults err.new) result }
+        (O.state (sink_of outlet.old)) (O.state (sink_of outlet.new)) (E.state err.old)
+        (E.state err.new) result }
     ensures keeps { Keeps (F.state shelf.old) (F.state shelf.new) }
 {
     let mut state = State {
@@ -138,11 +137,10 @@ fn run_whole<F: Shelf, O: Sink, E: Sink>(
     ensures runs { HasActs (setting_of script.entry.path.now
         (F.state shelf.old).files script.entry.memories) (acts_of (commands_of commands.now))
         → Runs (setting_of script.entry.path.now (F.state shelf.old).files script.entry.memories)
-        (F.state shelf.old).there (F.state shelf.old).unfailing (O.written out.old)
-        (O.written out.new)
-        (E.written err.old) (E.written err.new) result }
-    ensures counts { CountsScript (F.faults shelf.old) (F.faults shelf.new) (O.faults out.old)
-        (O.faults out.new) (E.faults err.old) (E.faults err.new) result }
+        (F.state shelf.old).there (F.state shelf.old).unfailing (O.state out.old) (O.state out.new)
+        (E.state err.old) (E.state err.new) result }
+    ensures counts { CountsScript (F.faults shelf.old) (F.faults shelf.new) (O.state out.old)
+        (O.state out.new) (E.state err.old) (E.state err.new) result }
     ensures keeps { Keeps (F.state shelf.old) (F.state shelf.new) }
 {
     let mut outlet = Pieces::new(out);
@@ -161,11 +159,10 @@ pub fn run_script<F: Shelf, O: Sink, E: Sink>(
     err: &mut E,
 ) -> Result<Verdict, ScriptError>
     ensures runs { Runs (setting_of path.now (F.state shelf.old).files memories)
-        (F.state shelf.old).there
-        (F.state shelf.old).unfailing (O.written out.old) (O.written out.new) (E.written err.old)
-        (E.written err.new) result }
-    ensures counts { CountsScript (F.faults shelf.old) (F.faults shelf.new) (O.faults out.old)
-        (O.faults out.new) (E.faults err.old) (E.faults err.new) result }
+        (F.state shelf.old).there (F.state shelf.old).unfailing (O.state out.old) (O.state out.new)
+        (E.state err.old) (E.state err.new) result }
+    ensures counts { CountsScript (F.faults shelf.old) (F.faults shelf.new) (O.state out.old)
+        (O.state out.new) (E.state err.old) (E.state err.new) result }
     ensures keeps { Keeps (F.state shelf.old) (F.state shelf.new) }
 {
     let script = Script {

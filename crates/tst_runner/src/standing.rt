@@ -1,7 +1,7 @@
 //! Where a script stands, and how it ends.
 
 ghost use Rattle.std.specs.Prelude.{◌≡◌};
-ghost use Rattle.outer_world.specs.Written.{CountsPut, Puts};
+ghost use Rattle.outer_world.specs.Written.{Puts};
 ghost use Rattle.source_files.specs.declared.error.LoadError.TheVariants.{Memory};
 ghost use Rattle.tst_runner.specs.Verdicts.{difference_line};
 ghost use Rattle.tst_runner.specs.declared.standing.Stop.TheVariants.{Unloaded};
@@ -74,9 +74,7 @@ impl<T: Drop> From<AllocFailed<T>> for Stop {
 impl Difference {
     /// Puts the line that reports it.
     pub fn put<S: Sink>(&self, sink: &mut S) -> Put
-        ensures put { Puts (S.written sink.old) (S.written sink.new)
-            (difference_line self.now) result }
-        ensures counts { CountsPut (S.faults sink.old) (S.faults sink.new) result }
+        ensures put { Puts (S.state sink.old) (S.state sink.new) (difference_line self.now) result }
     {
         let mut number = Buffer::new();
         put_through(

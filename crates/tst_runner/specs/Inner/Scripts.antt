@@ -1,7 +1,8 @@
 -- What the parts of a call that runs a script say; the call's own contract needs none of it.
-use Rattle.std.specs.Prelude.{◌≡◌, ◌⊎◌, ℕ, Bool, true, false, List, Option, Result, Ok, Err, if◌then◌else◌}
-use Rattle.outer_world.specs.Faults.{Rose}
-use Rattle.outer_world.specs.Written.{Got, GotPart}
+use Rattle.std.specs.Prelude.{◌≡◌, ◌⊎◌, ℕ, Bool, true, false, List, Result, Ok, Err, if◌then◌else◌}
+use Rattle.outer_world.specs.State.{SinkState}
+use Rattle.outer_world.specs.Written.{Puts}
+use Rattle.outer_world.specs.declared.sink.Put.TheVariants as put
 use Rattle.tst_runner.specs.declared.standing.Stop.{Stop}
 use Rattle.tst_runner.specs.declared.standing.Stop.TheVariants as stops
 use Rattle.tst_runner.specs.declared.script.Verdict.{Verdict}
@@ -28,8 +29,7 @@ verdict_of (Err stops.Out) compares = Err errors.Out
 verdict_of (Err stops.Err) compares = Err errors.Err
 
 -- What is pending is put, if out and err were written so far, and that is how the script ends, or out fails here.
-abbrev pub Finishes : Bool → Option (List ℕ) → Option (List ℕ) → List ℕ → ℕ → ℕ → Result Verdict ScriptError → Result Verdict ScriptError → Type 0
-Finishes true before now pending faults faults' verdict result = (now ≡ before) × (faults' ≡ faults) × (result ≡ verdict)
-Finishes false before now pending faults faults' verdict result =
-    (Got before now pending × (faults' ≡ faults) × (result ≡ verdict))
-    ⊎ (GotPart before now pending × Rose faults faults' × (result ≡ Err errors.Out))
+abbrev pub Finishes : Bool → SinkState → SinkState → List ℕ → Result Verdict ScriptError → Result Verdict ScriptError → Type 0
+Finishes true before now pending verdict result = (now ≡ before) × (result ≡ verdict)
+Finishes false before now pending verdict result =
+    (Puts before now pending put.Done × (result ≡ verdict)) ⊎ (Puts before now pending put.Failed × (result ≡ Err errors.Out))

@@ -16,17 +16,17 @@ returns-clause-does g c setting there w e f s path h stays =
     let items = c.args.items.now in
     let shown = c.in_ok-columns.columns.items in
     let are = c.in_ok-columns.ensures s.device h.device in
-    Performs-line setting there ⊥ w (g.O.Sink.written (sink_of c.put_line.new.out)) e f (pending c.put_line.new.out) s (record s { items = items }) (acts.OutputList items) c.in_ok-line.line.items c.put_line.new.state c.put_line.result
+    Performs-line setting there ⊥ w (g.O.Sink.state (sink_of c.put_line.new.out)).written e f (pending c.put_line.new.out) s (record s { items = items }) (acts.OutputList items) c.in_ok-line.line.items c.put_line.new.state c.put_line.result
     ((sources shown, meant s.device items shown are), refl, c.in_ok-line.ensures) refl refl refl
     (c.put_line.ensures.puts w e f (record s { items = items }) (record { device = h.device; columns = are; compared = h.compared; lines = h.lines }) (record { on_out = stays.on_out; on_err = stays.on_err }))
 
 pub returns-in_err-columns-clause-does : goal.returns-in_err-columns-clause-does
 returns-in_err-columns-clause-does g c setting there w e f s path h stays =
     let p = err_from_is_err_and c.from_residual.result c.from_residual.ensures.1 in
-    rw (p.1, p.2) (Performs-name setting there w (g.O.Sink.written (sink_of c.args.out.now)) e f (pending c.args.out.now) c.args.path.now s c.args.items.now c.args.state.now c.in_err-columns.field-0.0 path stays (c.in_err-columns.ensures s.device h.device))
+    rw (p.1, p.2) (Performs-name setting there w (g.O.Sink.state (sink_of c.args.out.now)).written e f (pending c.args.out.now) c.args.path.now s c.args.items.now c.args.state.now c.in_err-columns.field-0.0 path stays (c.in_err-columns.ensures s.device h.device))
 
 pub returns-in_err-columns-clause-counts : goal.returns-in_err-columns-clause-counts
 returns-in_err-columns-clause-counts g c h e =
     let p = err_from_is_err_and c.from_residual.result c.from_residual.ensures.1 in
     let s = c.requires.0 in
-    rw (p.1, p.2) (CountsStop-name c.args.path.now s.device c.args.items.now c.in_err-columns.field-0.0 h (g.O.Sink.faults (sink_of c.args.out.now)) e (c.in_err-columns.ensures s.device c.requires.1.device))
+    rw (p.1, p.2) (CountsStop-name c.args.path.now s.device c.args.items.now c.in_err-columns.field-0.0 h (g.O.Sink.state (sink_of c.args.out.now)).faults e (c.in_err-columns.ensures s.device c.requires.1.device))

@@ -33,7 +33,7 @@ pub returns-in-Tock-clause-does : goal.returns-in-Tock-clause-does
 returns-in-Tock-clause-does g c setting there w e f s h stays =
     let t = record s { device = after_tock s.device } in
     let P : Step → Type 0 = λ step. Does setting s (acts.Step step) t in
-    Performs-becomes setting there ⊥ w (g.O.Sink.written (sink_of c.args.out.now)) e f (pending c.args.out.now) s t (acts.Step c.args.step) c.tock.new.state c.tock.result
+    Performs-becomes setting there ⊥ w (g.O.Sink.state (sink_of c.args.out.now)).written e f (pending c.args.out.now) s t (acts.Step c.args.step) c.tock.new.state c.tock.result
     (subst P (sym c.in-Tock.is) refl) refl refl stays (c.tock.ensures s h)
 
 pub returns-in-TickTock-clause-does : goal.returns-in-TickTock-clause-does
@@ -42,7 +42,7 @@ returns-in-TickTock-clause-does g c setting there w e f s h stays =
     let t = record s { device = after_tock (after_tick s.device) } in
     let P : Step → Type 0 = λ step. Does setting s (acts.Step step) t in
     let is = IsState-device c.args.state.now s c.tick-in-TickTock.new.self (after_tick s.device) h (Keeps-tick s.device) (c.tick-in-TickTock.ensures.stands s.device h.device) in
-    Performs-becomes setting there ⊥ w (g.O.Sink.written (sink_of c.args.out.now)) e f (pending c.args.out.now) s t (acts.Step c.args.step) c.tock-in-TickTock.new.state c.tock-in-TickTock.result
+    Performs-becomes setting there ⊥ w (g.O.Sink.state (sink_of c.args.out.now)).written e f (pending c.args.out.now) s t (acts.Step c.args.step) c.tock-in-TickTock.new.state c.tock-in-TickTock.result
     (subst P (sym c.in-TickTock.is) refl) refl refl stays (c.tock-in-TickTock.ensures r is)
 
 pub returns-in-TickTock-clause-counts : goal.returns-in-TickTock-clause-counts
@@ -50,9 +50,9 @@ returns-in-TickTock-clause-counts g c h e =
     let s = c.requires.0 in
     let r = record s { device = after_tick s.device } in
     let is = IsState-device c.args.state.now s c.tick-in-TickTock.new.self (after_tick s.device) c.requires.1 (Keeps-tick s.device) (c.tick-in-TickTock.ensures.stands s.device c.requires.1.device) in
-    CountsStop-becomes c.tock-in-TickTock.new.state (record s { device = after_tock (after_tick s.device) }) c.tock-in-TickTock.result h (g.O.Sink.faults (sink_of c.args.out.now)) e (c.tock-in-TickTock.ensures r is)
+    CountsStop-becomes c.tock-in-TickTock.new.state (record s { device = after_tock (after_tick s.device) }) c.tock-in-TickTock.result h (g.O.Sink.state (sink_of c.args.out.now)).faults e (c.tock-in-TickTock.ensures r is)
 
 pub returns-in-Output-clause-does : goal.returns-in-Output-clause-does
 returns-in-Output-clause-does g c setting there w e f s h stays =
-    let P : Step → Type 0 = λ step. Performs setting there ⊥ w (g.O.Sink.written (sink_of c.put_values.new.out)) e f (pending c.put_values.new.out) s (acts.Step step) c.put_values.new.state c.put_values.result in
+    let P : Step → Type 0 = λ step. Performs setting there ⊥ w (g.O.Sink.state (sink_of c.put_values.new.out)).written e f (pending c.put_values.new.out) s (acts.Step step) c.put_values.new.state c.put_values.result in
     subst P (sym c.in-Output.is) (c.put_values.ensures.does setting there w e f s h stays)

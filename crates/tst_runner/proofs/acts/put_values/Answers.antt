@@ -15,5 +15,5 @@ values_line-requires g c =
 pub returns-clause-does : goal.returns-clause-does
 returns-clause-does g c setting there w e f s h stays =
     let are = subst (AreColumns s.device s.items) (sym c.deref.ensures.value) h.columns in
-    Performs-line setting there ⊥ w (g.O.Sink.written (sink_of c.put_line.new.out)) e f (pending c.put_line.new.out) s s (acts.Step steps.Output) c.in_ok-line.line.items c.put_line.new.state c.put_line.result
+    Performs-line setting there ⊥ w (g.O.Sink.state (sink_of c.put_line.new.out)).written e f (pending c.put_line.new.out) s s (acts.Step steps.Output) c.in_ok-line.line.items c.put_line.new.state c.put_line.result
     (refl, c.in_ok-line.ensures s.device s.items h.device are) refl refl refl (c.put_line.ensures.puts w e f s h stays)

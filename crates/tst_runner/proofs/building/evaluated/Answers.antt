@@ -1,6 +1,6 @@
 use Rattle.std.proofs.Common.{◌≡◌, [], map, sym, ap, subst, ◌∙◌}
 use Rattle.std.specs.List.{All, Contains}
-use Rattle.script_device.specs.Directory.{LoadedChip}
+use Rattle.script_device.specs.Directory.{FitsNet, LoadedChip}
 use Rattle.tst_runner.specs.Directories.{part_nodes}
 use Rattle.tst_runner.proofs.building.evaluated.Goals as goal
 
@@ -10,7 +10,7 @@ returns-clause-among c =
     subst (All (Contains (map (part_nodes c.args.library.now.entries) c.args.e.parts))) (sym same) c.in_ok-directory.ensures.among
 
 pub driven_chip-requires-clause-fits : goal.driven_chip-requires-clause-fits
-driven_chip-requires-clause-fits c = c.requires.fits c.in_ok-directory.directory c.in_ok-directory.ensures.directory c.in_ok-directory.ensures.among
+driven_chip-requires-clause-fits c = subst (λ net. FitsNet net c.in_ok-directory.directory) (sym c.net_of-net.ensures) (c.requires.fits c.in_ok-directory.directory c.in_ok-directory.ensures.directory c.in_ok-directory.ensures.among)
 
 pub returns-clause-runs : goal.returns-clause-runs
 returns-clause-runs c = c.eval.ensures.runs c.args.simplify c.in_ok-chip.ensures.runs

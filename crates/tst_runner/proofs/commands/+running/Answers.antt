@@ -22,7 +22,7 @@ run_command-loop-preserved g t c =
       ran = ran_as (times c.loop.counter body ++ body) (times (c.loop.counter + 1) body) (times_next c.loop.counter body)
           (ran_then (times c.loop.counter body) body c.loop.invariant.ran
           (ran_as (acts_in c.deref.result.now) body (ap acts_in c.deref.ensures.value)
-          (ran_of (g.F.Shelf.state now.shelf).files (g.F.Shelf.state now.shelf).there (g.F.Shelf.state now.shelf).unfailing (g.O.Sink.written now.out.sink.now) (pending now.out) (g.E.Sink.written now.err) (acts_in c.deref.result.now) now.state (Ok tt) done.does done.keeps)));
+          (ran_of (g.F.Shelf.state now.shelf).files (g.F.Shelf.state now.shelf).there (g.F.Shelf.state now.shelf).unfailing (g.O.Sink.state now.out.sink.now).written (pending now.out) (g.E.Sink.state now.err).written (acts_in c.deref.result.now) now.state (Ok tt) done.does done.keeps)));
       counts = counts_then _ _ _ _ _ _ _ _ _ (Ok tt) c.loop.invariant.counts done.counts;
       same_sink = done.same_sink ∙ c.loop.invariant.same_sink;
     }
@@ -43,10 +43,10 @@ run_command-returns-in_err-run_commands-in-Repeat g t c =
     (ran_cut (times (n - (i + 1)) body)
     (ran_then (times i body) body c.loop.invariant.ran
     (ran_as (acts_in c.deref.result.now) body (ap acts_in c.deref.ensures.value)
-    (ran_of (g.F.Shelf.state now.shelf).files (g.F.Shelf.state now.shelf).there (g.F.Shelf.state now.shelf).unfailing (g.O.Sink.written now.out.sink.now) (pending now.out) (g.E.Sink.written now.err) (acts_in c.deref.result.now) now.state (Err stop) done.does done.keeps))))) in
+    (ran_of (g.F.Shelf.state now.shelf).files (g.F.Shelf.state now.shelf).there (g.F.Shelf.state now.shelf).unfailing (g.O.Sink.state now.out.sink.now).written (pending now.out) (g.E.Sink.state now.err).written (acts_in c.deref.result.now) now.state (Err stop) done.does done.keeps))))) in
     record {
       does = ran.does;
-      counts = subst (λ (r : Result (Unit {0}) Stop). CountsStop (g.F.Shelf.faults c.args.shelf.now) (g.F.Shelf.faults now.shelf) (g.O.Sink.faults c.args.out.now.sink.now) (g.O.Sink.faults now.out.sink.now) (g.E.Sink.faults c.args.err.now) (g.E.Sink.faults now.err) r) (sym is) (counts_then _ _ _ _ _ _ _ _ _ (Err stop) c.loop.invariant.counts done.counts);
+      counts = subst (λ (r : Result (Unit {0}) Stop). CountsStop (g.F.Shelf.faults c.args.shelf.now) (g.F.Shelf.faults now.shelf) (g.O.Sink.state c.args.out.now.sink.now).faults (g.O.Sink.state now.out.sink.now).faults (g.E.Sink.state c.args.err.now).faults (g.E.Sink.state now.err).faults r) (sym is) (counts_then _ _ _ _ _ _ _ _ _ (Err stop) c.loop.invariant.counts done.counts);
       same_sink = done.same_sink ∙ c.loop.invariant.same_sink;
       keeps = ran.keeps;
     }
@@ -57,8 +57,8 @@ run_command-returns-in-Act-clause-does g t c = λ w e s at stands.
     let there = (g.F.Shelf.state c.args.shelf.now).there in
     let unfailing = (g.F.Shelf.state c.args.shelf.now).unfailing in
     let now = c.perform.new in
-    subst (λ (x : commands.Command). PerformsAll setting there unfailing w (g.O.Sink.written now.out.sink.now) e (g.E.Sink.written now.err) (pending now.out) s (acts_by x) now.state c.perform.result) (sym c.in-Act.is)
-    (act_all setting there unfailing w (g.O.Sink.written now.out.sink.now) e (g.E.Sink.written now.err) (pending now.out) s _ now.state c.perform.result (c.perform.ensures.does w e s at stands))
+    subst (λ (x : commands.Command). PerformsAll setting there unfailing w (g.O.Sink.state now.out.sink.now).written e (g.E.Sink.state now.err).written (pending now.out) s (acts_by x) now.state c.perform.result) (sym c.in-Act.is)
+    (act_all setting there unfailing w (g.O.Sink.state now.out.sink.now).written e (g.E.Sink.state now.err).written (pending now.out) s _ now.state c.perform.result (c.perform.ensures.does w e s at stands))
 
 pub run_command-returns-after-loop : goal.run_command-returns-after-loop
 run_command-returns-after-loop g t c =
@@ -81,7 +81,7 @@ run_commands-loop-command-preserved g t c =
     record {
       ran = ran_as (acts_in (take i all) ++ acts_by one) (acts_in (take (i + 1) all)) (acts_next all i one c.loop-command-test.true c.command-item.is)
           (ran_then (acts_in (take i all)) (acts_by one) c.loop-command.invariant.ran
-          (ran_of (g.F.Shelf.state now.shelf).files (g.F.Shelf.state now.shelf).there (g.F.Shelf.state now.shelf).unfailing (g.O.Sink.written now.out.sink.now) (pending now.out) (g.E.Sink.written now.err) (acts_by one) now.state (Ok tt) done.does done.keeps));
+          (ran_of (g.F.Shelf.state now.shelf).files (g.F.Shelf.state now.shelf).there (g.F.Shelf.state now.shelf).unfailing (g.O.Sink.state now.out.sink.now).written (pending now.out) (g.E.Sink.state now.err).written (acts_by one) now.state (Ok tt) done.does done.keeps));
       counts = counts_then _ _ _ _ _ _ _ _ _ (Ok tt) c.loop-command.invariant.counts done.counts;
       same_sink = done.same_sink ∙ c.loop-command.invariant.same_sink;
     }
@@ -100,10 +100,10 @@ run_commands-returns-in_err-run_command g t c =
     (ran_as ((acts_in (take i all) ++ acts_by one) ++ acts_in (drop (i + 1) all)) (acts_in all) (acts_at all i one c.loop-command-test.true c.command-item.is)
     (ran_cut (acts_in (drop (i + 1) all))
     (ran_then (acts_in (take i all)) (acts_by one) c.loop-command.invariant.ran
-    (ran_of (g.F.Shelf.state now.shelf).files (g.F.Shelf.state now.shelf).there (g.F.Shelf.state now.shelf).unfailing (g.O.Sink.written now.out.sink.now) (pending now.out) (g.E.Sink.written now.err) (acts_by one) now.state (Err stop) done.does done.keeps)))) in
+    (ran_of (g.F.Shelf.state now.shelf).files (g.F.Shelf.state now.shelf).there (g.F.Shelf.state now.shelf).unfailing (g.O.Sink.state now.out.sink.now).written (pending now.out) (g.E.Sink.state now.err).written (acts_by one) now.state (Err stop) done.does done.keeps)))) in
     record {
       does = ran.does;
-      counts = subst (λ (r : Result (Unit {0}) Stop). CountsStop (g.F.Shelf.faults c.args.shelf.now) (g.F.Shelf.faults now.shelf) (g.O.Sink.faults c.args.out.now.sink.now) (g.O.Sink.faults now.out.sink.now) (g.E.Sink.faults c.args.err.now) (g.E.Sink.faults now.err) r) (sym is) (counts_then _ _ _ _ _ _ _ _ _ (Err stop) c.loop-command.invariant.counts done.counts);
+      counts = subst (λ (r : Result (Unit {0}) Stop). CountsStop (g.F.Shelf.faults c.args.shelf.now) (g.F.Shelf.faults now.shelf) (g.O.Sink.state c.args.out.now.sink.now).faults (g.O.Sink.state now.out.sink.now).faults (g.E.Sink.state c.args.err.now).faults (g.E.Sink.state now.err).faults r) (sym is) (counts_then _ _ _ _ _ _ _ _ _ (Err stop) c.loop-command.invariant.counts done.counts);
       same_sink = done.same_sink ∙ c.loop-command.invariant.same_sink;
       keeps = ran.keeps;
     }
