@@ -32,5 +32,7 @@ pub data ComesDown (chips : Chips) : Entry → Type 0 where
 
 -- Each chip without faults comes down to such ends, so each shipped one, with blocks and with memories of gates.
 pub record DownLaw : Type 0 where
-  pub faultless : (chips : Chips) (chip : Entry) → IsFaultless chips (chip.name ∷ []) chip → ComesDown chips chip
-  pub shipped : (memories : Memories) (i : ℕ) (entry : Entry) → slice_get shipped_chips i ≡ Some entry → ComesDown (chips_in shipped_chips memories) entry
+  pub faultless : (chips : Chips) (chip : Entry) → IsFaultless chips (chip.name ∷ []) chip
+      → ComesDown chips chip
+  pub shipped : (memories : Memories) (i : ℕ) (entry : Entry)
+      → slice_get shipped_chips i ≡ Some entry → ComesDown (chips_in shipped_chips memories) entry

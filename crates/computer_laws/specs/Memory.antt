@@ -18,7 +18,9 @@ IsMapped wires c a = block_word 15 (wires []) c a ≡ (if nat_lt a 16384 then bl
 
 -- in each cycle of each behaviour of Memory, whether its memories are blocks or made of gates
 pub record MemoryLaw : Type 0 where
-  pub works : (world : World) (library : Chips) (n : ℕ) (wires : List ℕ → Histories) → HasComputerChips library
+  pub works : (world : World) (library : Chips) (n : ℕ) (wires : List ℕ → Histories)
+      → HasComputerChips library
       → IsBehaviour world library (shipped_entry memory_tree) n wires → (c : ℕ) → c < n → MemoryWorks world (wires []) c
-  pub map : (world : World) (library : Chips) (n : ℕ) (wires : List ℕ → Histories) → HasComputerChips library
+  pub map : (world : World) (library : Chips) (n : ℕ) (wires : List ℕ → Histories)
+      → HasComputerChips library
       → IsBehaviour world library (shipped_entry memory_tree) n wires → (c : ℕ) → c < n → (a : ℕ) → a < 24576 → IsMapped wires c a

@@ -1,5 +1,5 @@
 -- The history of the computer of gates, cycle by cycle.
-use Rattle.std.proofs.Common.{◌≡◌, ◌<◌, ◌≤◌, ◌+◌, ◌-◌, ℕ, zero, suc, Bool, true, false, List, [], ◌∷◌, ◌++◌, length, Option, Some, refl, ap, ◌∙◌, sym, subst, arith, length-append, add-one}
+use Rattle.std.proofs.Common.{◌≡◌, ◌<◌, ◌≤◌, ◌+◌, ◌-◌, ℕ, zero, suc, Bool, true, false, List, [], ◌∷◌, ◌++◌, length, Some, refl, ap, ◌∙◌, sym, subst, arith, length-append, add-one}
 use Rattle.std.specs.Prelude.{if◌then◌else◌, nat_lt, slice_get, slice_index, codes}
 use Rattle.std.specs.List.{All}
 use Rattle.std.proofs.lemmas.List.Elements.{All-push}
@@ -49,6 +49,7 @@ use Rattle.gate_computer.specs.Simple.{ShowsComputer}
 use Rattle.gate_computer.specs.Followed.{GateMachine, HasFollowed, PassesParts}
 use Rattle.gate_computer.specs.Inner.Reading.{wired_text}
 use Rattle.gate_computer.proofs.Outputs.{text_same}
+use Rattle.outer_world.specs.State.{SinkState}
 use Rattle.outer_world.specs.Written.{Passes}
 use Rattle.outer_world.specs.declared.sink.Put.{Put}
 use Rattle.gate_computer.specs.Calls.{HoldsKey, ComesIn, WasTold}
@@ -392,7 +393,7 @@ module _ (s0 sA sE : SimState) (w : Wiring) (image : List ℕ) (old key : ℕ) (
         ∙ spelled_is (λ k. own.v k n) 15 (told.seen.wired.at cpu_path (codes "pc"))
         ∙ (shows_at image keys (suc n) (own_wires s0 w image old turns told keys) (own_is s0 w image old turns told keys words (suc n)) n (omega arith)).pc
 
-    pub passes_parts : ((c : ℕ) → IsKey (keys c)) → (parts : List WiredPart) → w.parts ≡ Some parts → (before : Option (List ℕ)) (pending : List ℕ) (now' : Option (List ℕ)) (pending' : List ℕ) (answer : Put)
+    pub passes_parts : ((c : ℕ) → IsKey (keys c)) → (parts : List WiredPart) → w.parts ≡ Some parts → (before : SinkState) (pending : List ℕ) (now' : SinkState) (pending' : List ℕ) (answer : Put)
         → Passes before pending now' pending' (wired_text (value_in sE.values) parts) answer → PassesParts image keys (length turns) before pending now' pending' answer
     passes_parts words parts has before pending now' pending' answer passes = record {
       text = wired_text (value_in sE.values) parts;

@@ -1,7 +1,8 @@
 -- The computer of gates as its callers see it, and its history. (The book, chapter 5.)
-use Rattle.std.specs.Prelude.{◌≡◌, ℕ, suc, ◌-◌, ◌<◌, nat_lt, if◌then◌else◌, List, length, Option, Some}
+use Rattle.std.specs.Prelude.{◌≡◌, ℕ, suc, ◌-◌, ◌<◌, nat_lt, if◌then◌else◌, List, length, Some}
 use Rattle.std.specs.List.{All}
 use Rattle.word16.specs.Memory.{keyboard}
+use Rattle.outer_world.specs.State.{SinkState}
 use Rattle.outer_world.specs.Written.{Passes}
 use Rattle.outer_world.specs.declared.sink.Put.{Put}
 use Rattle.machine_io.specs.History.{Turn}
@@ -66,7 +67,7 @@ pub record HasFollowed (g : GateMachine) (turns : List Turn) : Type 0 where
   pub behaves : (keys : ℕ → ℕ) → ((c : ℕ) → IsKey (keys c)) → (m : ℕ) → (wires : List ℕ → Histories) × IsComputer g.image keys m wires
 
 -- A text was handed to a buffer that shows the outputs of all parts in cycle n of a behaviour of the Computer with this image and these keys.
-pub record PassesParts (image : List ℕ) (keys : ℕ → ℕ) (n : ℕ) (before : Option (List ℕ)) (pending : List ℕ) (now : Option (List ℕ)) (pending' : List ℕ) (answer : Put) : Type 0 where
+pub record PassesParts (image : List ℕ) (keys : ℕ → ℕ) (n : ℕ) (before : SinkState) (pending : List ℕ) (now : SinkState) (pending' : List ℕ) (answer : Put) : Type 0 where
   pub text : List ℕ
   pub wires : List ℕ → Histories
   pub behaves : IsComputer image keys (suc n) wires

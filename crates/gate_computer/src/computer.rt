@@ -156,10 +156,10 @@ impl GateComputer {
         ensures same_sink { HaveSameSink out.old out.new }
         ensures passes { (turns : List Turn) → HasFollowed self.old turns → (keys : ℕ → ℕ)
             → ((c : ℕ) → IsKey (keys c)) → HoldsKeys keys 0 turns → keys (length turns) ≡ key
-            → PassesParts self.old.image keys (length turns) (S.written (sink_of out.old))
-            (pending out.old) (S.written (sink_of out.new)) (pending out.new) result }
-        ensures counts { CountsPut (S.faults (sink_of out.old)) (S.faults (sink_of out.new))
-            result }
+            → PassesParts self.old.image keys (length turns) (S.state (sink_of out.old))
+            (pending out.old) (S.state (sink_of out.new)) (pending out.new) result }
+        ensures counts { CountsPut (S.state (sink_of out.old)).faults
+            (S.state (sink_of out.new)).faults result }
     {
         set_keyboard(
             &mut self.sim,

@@ -2,8 +2,7 @@
 
 ghost use Rattle.std.specs.Prelude.{◌≡◌, ◌<◌, map, length, slice_get, ℕ, IsSome, Some};
 ghost use Rattle.std.specs.List.{All};
-ghost use Rattle.outer_world.specs.Held.{HaveSameSink, pending, sink_of};
-ghost use Rattle.outer_world.specs.Written.{CountsPut, Passes};
+ghost use Rattle.outer_world.specs.Held.{Buffers, HaveSameSink};
 ghost use Rattle.netlist.specs.Present.{value_in};
 ghost use Rattle.gate_computer.specs.declared.wiring.WiredPart.{WiredPart};
 ghost use Rattle.gate_computer.specs.Parts.{digit};
@@ -22,10 +21,8 @@ fn digit(bit: bool) -> u8
 fn put_digits<S: Sink>(sim: &Sim, nodes: &[u32], out: &mut Pieces<'_, S>) -> Put
     requires { All (λ node. node < length sim.now.net.nodes) nodes.now }
     ensures same_sink { HaveSameSink out.old out.new }
-    ensures passes { Passes (S.written (sink_of out.old))
-        (pending out.old) (S.written (sink_of out.new)) (pending out.new)
+    ensures passes { Buffers out.old out.new
         (map (λ node. digit (value_in sim.now.values node)) nodes.now) result }
-    ensures counts { CountsPut (S.faults (sink_of out.old)) (S.faults (sink_of out.new)) result }
 {
     for node in nodes {
         match out.put(&[digit(sim.get(*node))]) {
@@ -40,10 +37,8 @@ fn put_digits<S: Sink>(sim: &Sim, nodes: &[u32], out: &mut Pieces<'_, S>) -> Put
 fn put_part<S: Sink>(sim: &Sim, part: &WiredPart, out: &mut Pieces<'_, S>) -> Put
     requires { All (λ node. node < length sim.now.net.nodes) part.now.outputs }
     ensures same_sink { HaveSameSink out.old out.new }
-    ensures passes { Passes (S.written (sink_of out.old))
-        (pending out.old) (S.written (sink_of out.new)) (pending out.new)
+    ensures passes { Buffers out.old out.new
         (wired_line (value_in sim.now.values) part.now) result }
-    ensures counts { CountsPut (S.faults (sink_of out.old)) (S.faults (sink_of out.new)) result }
 {
     match out.put_all(&[part.chip.as_bytes(), b" "]) {
         Put::Done => {}
@@ -71,10 +66,8 @@ pub fn told_parts(wiring: &Wiring) -> &[WiredPart]
 pub fn put_parts<S: Sink>(sim: &Sim, parts: &[WiredPart], out: &mut Pieces<'_, S>) -> Put
     requires { ArePartsThere (length sim.now.net.nodes) parts.now }
     ensures same_sink { HaveSameSink out.old out.new }
-    ensures passes { Passes (S.written (sink_of out.old))
-        (pending out.old) (S.written (sink_of out.new)) (pending out.new)
+    ensures passes { Buffers out.old out.new
         (wired_text (value_in sim.now.values) parts.now) result }
-    ensures counts { CountsPut (S.faults (sink_of out.old)) (S.faults (sink_of out.new)) result }
 {
     for part in parts {
         match put_part(sim, part, out) {

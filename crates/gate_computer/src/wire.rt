@@ -56,7 +56,8 @@ pub fn wire_computer(
     ensures parts { IfOk result (λ wired. IsSome wired.wiring.parts) }
     ensures few { IfOk result (λ wired. length wired.net.nodes < 2 ^ 32 - 1) }
 {
-    let wiring = wiring_of(alloc, library, elab.parts.as_slice())?;
+    let parts = elab.parts.to_vec(alloc)?;
+    let wiring = wiring_of(alloc, library, &parts)?;
     Ok(WiredComputer {
         net: elab.net,
         wiring,

@@ -12,7 +12,7 @@ returns-in-Failed-clause-passes g c =
     let nodes = c.args.nodes.now in
     let i = c.loop-node.node-index in
     let f : ℕ → ℕ = λ node. digit (value_in c.args.sim.now.values node) in
-    prints_failed _ _ _ (map f (drop (i + 1) nodes)) _ _ _ _ _ _ _ _ (ap (map f) (rest_at nodes i (get_or nodes i 0) c.loop-node-test.true (get_or_default nodes i 0 (get_or nodes i 0) c.loop-node-test.true))) c.loop-node.invariant.1
+    prints_failed _ _ _ (map f (drop (i + 1) nodes)) _ _ _ _ _ _ (ap (map f) (rest_at nodes i (get_or nodes i 0) c.loop-node-test.true (get_or_default nodes i 0 (get_or nodes i 0) c.loop-node-test.true))) c.loop-node.invariant.1
     (handed_as _ _ _ _ _ _ _ (ap (λ x. x ∷ []) (c.digit.ensures ∙ ap digit c.get.ensures.stored)) c.in-Failed.ensures.passes)
 
 pub loop-node-preserved : goal.loop-node-preserved
@@ -21,6 +21,6 @@ loop-node-preserved g c =
     let i = c.loop-node.node-index in
     let f : ℕ → ℕ = λ node. digit (value_in c.args.sim.now.values node) in (
       c.in-Done.ensures.same_sink ∙ c.loop-node.invariant.0,
-      prints_more _ _ _ _ _ _ _ _ _ _ _ _ _ (ap (map f) (rest_at nodes i (get_or nodes i 0) c.loop-node-test.true (get_or_default nodes i 0 (get_or nodes i 0) c.loop-node-test.true))) c.loop-node.invariant.1
-          (handed_as _ _ _ _ _ _ _ (ap (λ x. x ∷ []) (c.digit.ensures ∙ ap digit c.get.ensures.stored)) c.in-Done.ensures.passes) c.in-Done.ensures.counts,
+      prints_more _ _ _ _ _ _ _ _ _ _ (ap (map f) (rest_at nodes i (get_or nodes i 0) c.loop-node-test.true (get_or_default nodes i 0 (get_or nodes i 0) c.loop-node-test.true))) c.loop-node.invariant.1
+          (handed_as _ _ _ _ _ _ _ (ap (λ x. x ∷ []) (c.digit.ensures ∙ ap digit c.get.ensures.stored)) c.in-Done.ensures.passes),
     )

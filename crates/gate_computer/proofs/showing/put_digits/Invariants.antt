@@ -8,5 +8,5 @@ use Rattle.gate_computer.proofs.showing.put_digits.Given as goal
 
 abbrev pub invariant-loop-node : goal.invariant-loop-node
 invariant-loop-node g l = (l.out.sink.ghost_name ≡ l.fn.out.sink.ghost_name)
-    × Prints (map (λ node. digit (value_in l.sim.values node)) l.nodes) (map (λ node. digit (value_in l.sim.values node)) (drop l.node-index l.nodes)) (g.S.Sink.written l.fn.out.sink.now) (take l.fn.out.len l.fn.out.buffer)
-    (g.S.Sink.written l.out.sink.now) (take l.out.len l.out.buffer) (g.S.Sink.faults l.fn.out.sink.now) (g.S.Sink.faults l.out.sink.now)
+    × Prints (map (λ node. digit (value_in l.sim.values node)) l.nodes) (map (λ node. digit (value_in l.sim.values node)) (drop l.node-index l.nodes)) (g.S.Sink.state l.fn.out.sink.now) (take l.fn.out.len l.fn.out.buffer)
+    (g.S.Sink.state l.out.sink.now) (take l.out.len l.out.buffer)

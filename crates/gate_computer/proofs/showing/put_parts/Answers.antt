@@ -10,10 +10,10 @@ put_part-requires g c = c.requires c.loop-part.part-index c.part-item.result (sl
 
 pub returns-in-Failed-clause-passes : goal.returns-in-Failed-clause-passes
 returns-in-Failed-clause-passes g c =
-    prints_failed _ _ _ (wired_text (value_in c.args.sim.now.values) (drop (c.loop-part.part-index + 1) c.args.parts.now)) _ _ _ _ _ _ _ _ (ap (wired_text (value_in c.args.sim.now.values)) (rest_at c.args.parts.now c.loop-part.part-index c.part-item.result c.loop-part-test.true c.part-item.is)) c.loop-part.invariant.1 c.in-Failed.ensures.passes
+    prints_failed _ _ _ (wired_text (value_in c.args.sim.now.values) (drop (c.loop-part.part-index + 1) c.args.parts.now)) _ _ _ _ _ _ (ap (wired_text (value_in c.args.sim.now.values)) (rest_at c.args.parts.now c.loop-part.part-index c.part-item.result c.loop-part-test.true c.part-item.is)) c.loop-part.invariant.1 c.in-Failed.ensures.passes
 
 pub loop-part-preserved : goal.loop-part-preserved
 loop-part-preserved g c = (
   c.in-Done.ensures.same_sink ∙ c.loop-part.invariant.0,
-  prints_more _ _ _ _ _ _ _ _ _ _ _ _ _ (ap (wired_text (value_in c.args.sim.now.values)) (rest_at c.args.parts.now c.loop-part.part-index c.part-item.result c.loop-part-test.true c.part-item.is)) c.loop-part.invariant.1 c.in-Done.ensures.passes c.in-Done.ensures.counts,
+  prints_more _ _ _ _ _ _ _ _ _ _ (ap (wired_text (value_in c.args.sim.now.values)) (rest_at c.args.parts.now c.loop-part.part-index c.part-item.result c.loop-part-test.true c.part-item.is)) c.loop-part.invariant.1 c.in-Done.ensures.passes,
 )

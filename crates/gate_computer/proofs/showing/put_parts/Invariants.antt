@@ -7,5 +7,5 @@ use Rattle.gate_computer.proofs.showing.put_parts.Given as goal
 
 abbrev pub invariant-loop-part : goal.invariant-loop-part
 invariant-loop-part g l = (l.out.sink.ghost_name ≡ l.fn.out.sink.ghost_name)
-    × Prints (wired_text (value_in l.sim.values) l.parts) (wired_text (value_in l.sim.values) (drop l.part-index l.parts)) (g.S.Sink.written l.fn.out.sink.now) (take l.fn.out.len l.fn.out.buffer)
-    (g.S.Sink.written l.out.sink.now) (take l.out.len l.out.buffer) (g.S.Sink.faults l.fn.out.sink.now) (g.S.Sink.faults l.out.sink.now)
+    × Prints (wired_text (value_in l.sim.values) l.parts) (wired_text (value_in l.sim.values) (drop l.part-index l.parts)) (g.S.Sink.state l.fn.out.sink.now) (take l.fn.out.len l.fn.out.buffer)
+    (g.S.Sink.state l.out.sink.now) (take l.out.len l.out.buffer)

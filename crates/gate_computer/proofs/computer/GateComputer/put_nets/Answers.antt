@@ -34,8 +34,8 @@ returns-clause-passes g c turns h keys words holds now =
     let netE = c.eval.ensures.net ∙ netA in
     let set = subst (λ l. HasSet c.set_keyboard.new.sim f.told.calls (HoldsKey l c.args.key)) c.as_slice.ensures
     (c.set_keyboard.ensures.told f.told.calls f.told.stands (subst (λ l. HoldsKey l c.self.inside.key (pins_of c.self.inside.sim.net.nodes f.told.calls)) (sym c.as_slice.ensures) f.told.held)) in
-    let before = g.S.Sink.written c.args.out.now.sink.now in
-    let after = g.S.Sink.written c.put_parts.new.out.sink.now in
+    let before = g.S.Sink.state c.args.out.now.sink.now in
+    let after = g.S.Sink.state c.put_parts.new.out.sink.now in
     subst (λ (s : GateMachine). PassesParts s.image keys (length turns) before (pending c.args.out.now) after (pending c.put_parts.new.out) c.put_parts.result) c.self.view_is
     (passes_parts c.self.inside.sim c.set_keyboard.new.sim c.eval.new.self c.self.inside.wiring c.self.inside.image c.self.inside.key c.args.key turns netA netE (omega arith) f.told set (c.eval.ensures.stands set.now set.stands)
     keys holds now words c.told_parts.result.now c.told_parts.ensures before (pending c.args.out.now) after (pending c.put_parts.new.out) c.put_parts.result
