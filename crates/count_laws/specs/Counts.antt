@@ -36,7 +36,8 @@ pub record AreFew (core : Core) : Type 0 where
   pub statics : (k : ℕ) → statics_before (the_program core).classes k < 2 ^ 31
   -- It numbers the choices and the loops of each subroutine.
   pub ifs : (g : ℕ) → 0 < g → g < length (the_program core).subroutines → ifs_in (subroutine_at (the_program core).subroutines g).body < 2 ^ 32
-  pub whiles : (g : ℕ) → 0 < g → g < length (the_program core).subroutines → whiles_in (subroutine_at (the_program core).subroutines g).body < 2 ^ 32
+  pub whiles : (g : ℕ) → 0 < g → g < length (the_program core).subroutines
+      → whiles_in (subroutine_at (the_program core).subroutines g).body < 2 ^ 32
   -- `link` numbers the sections of what is compiled.
   pub sections : length (sections false (files_of core)) < 2 ^ 32
 

@@ -26,19 +26,24 @@ pub record SimulationLaw : Type 0 where
   -- Each step of the meaning is made by commands of the virtual machine, together at most gap - 16 steps of the computer. The last of
   -- them alone is a commit. On the way the point, heap and screen stay those of the meaning. No command is full or finds its value,
   -- argument, local or code missing.
-  pub steps : (program : Program) (numbers : Numbers) (linked : Linked) (depth most_locals : ℕ) → IsFit program numbers depth most_locals → IsCodeOf program numbers linked
+  pub steps : (program : Program) (numbers : Numbers) (linked : Linked) (depth most_locals : ℕ)
+      → IsFit program numbers depth most_locals → IsCodeOf program numbers linked
       → Simulates (meaning_of program.subroutines) (vm_system linked) (vm_cost most_steps linked) (Match program numbers linked depth) (λ s. gap depth most_locals - 16)
   -- where the meaning strays, the virtual machine goes on such a way to a commit that strays at the same address
-  pub strays : (program : Program) (numbers : Numbers) (linked : Linked) (depth most_locals : ℕ) → IsFit program numbers depth most_locals → IsCodeOf program numbers linked
+  pub strays : (program : Program) (numbers : Numbers) (linked : Linked) (depth most_locals : ℕ)
+      → IsFit program numbers depth most_locals → IsCodeOf program numbers linked
       → (s : State) (v : VmState) (key a : ℕ) → Match program numbers linked depth s v → (meaning_of program.subroutines).fits s ≡ true → step program.subroutines key s ≡ Stray a
       → ComesAstray program.subroutines linked s a (gap depth most_locals - 16) v
   -- the virtual machine's stack has no more words than the meaning's
-  pub words : (program : Program) (numbers : Numbers) (linked : Linked) (depth : ℕ) (s : State) (v : VmState) → Match program numbers linked depth s v
+  pub words : (program : Program) (numbers : Numbers) (linked : Linked) (depth : ℕ) (s : State)
+      (v : VmState) → Match program numbers linked depth s v
       → words_in_use v.frames ≤ stack_words s.frames
   -- and no fewer, but for locals that are still to be made and one word of each frame
-  pub words_back : (program : Program) (numbers : Numbers) (linked : Linked) (depth most_locals : ℕ) → IsFit program numbers depth most_locals
+  pub words_back : (program : Program) (numbers : Numbers) (linked : Linked) (depth most_locals : ℕ)
+      → IsFit program numbers depth most_locals
       → (s : State) (v : VmState) → Match program numbers linked depth s v
       → stack_words s.frames ≤ words_in_use v.frames + locals_to_make s.frames v.frames + length s.frames
   -- the starts match
-  pub starts : (program : Program) (numbers : Numbers) (linked : Linked) (depth most_locals : ℕ) → IsFit program numbers depth most_locals → IsCodeOf program numbers linked
+  pub starts : (program : Program) (numbers : Numbers) (linked : Linked) (depth most_locals : ℕ)
+      → IsFit program numbers depth most_locals → IsCodeOf program numbers linked
       → Match program numbers linked depth (start program) vm_start

@@ -26,8 +26,10 @@ pub record IsLinkedProgram (program : Program) (linked : Linked) : Type 0 where
   pub most_locals : ℕ
   pub code : IsCodeOf program numbers linked
   pub all : (g : ℕ) → IsLinked program g → numbers.keeps g ≡ true
-  pub only : (k : ℕ) (f : LinkedFunction) → slice_get linked.functions k ≡ Some f → IsLinked program f.number
-  pub once : (j k : ℕ) (f g : LinkedFunction) → slice_get linked.functions j ≡ Some f → slice_get linked.functions k ≡ Some g → f.number ≡ g.number → j ≡ k
+  pub only : (k : ℕ) (f : LinkedFunction) → slice_get linked.functions k ≡ Some f
+      → IsLinked program f.number
+  pub once : (j k : ℕ) (f g : LinkedFunction) → slice_get linked.functions j ≡ Some f
+      → slice_get linked.functions k ≡ Some g → f.number ≡ g.number → j ≡ k
   pub deepest : IsMost program (depth_of program) depth
   pub most : IsMost program (locals_of program) most_locals
   pub fits : IsFit program numbers depth most_locals
@@ -44,9 +46,11 @@ IsOnlyFault fault = (fault ≡ Memory) ⊎ ((words : ℕ) × (fault ≡ TooManyS
 
 pub record CompiledLaw : Type 0 where
   -- what linking answers for the compiled files is the code of the program
-  pub linked : (core : Core) (linked : Linked) → IsResolvedCore core → Links false (files_of core) (Ok linked) → IsLinkedOf core linked
+  pub linked : (core : Core) (linked : Linked) → IsResolvedCore core
+      → Links false (files_of core) (Ok linked) → IsLinkedOf core linked
   -- the only fault that linking finds is that there are too many static words
-  pub faults : (core : Core) (fault : LinkFault) → IsResolvedCore core → Links false (files_of core) (Err fault) → IsOnlyFault fault
+  pub faults : (core : Core) (fault : LinkFault) → IsResolvedCore core
+      → Links false (files_of core) (Err fault) → IsOnlyFault fault
 
 -- Its calls, returns and comparisons are commits, all of them.
 abbrev pub CodeIsUniform : Type 0

@@ -32,7 +32,8 @@ AreInOrder class (sub ∷ subs) = (class ≤ sub.class) × AreInOrder sub.class 
 -- There is a bound on each count, which the readers see to.
 pub record IsResolvedSubroutine (program : Program) (sub : Subroutine) : Type 0 where
   pub class : sub.class < length program.classes
-  pub body : IsBody program.subroutines (named_in program sub.class) (scope_of sub) sub.kind sub.body
+  pub body : IsBody program.subroutines (named_in program sub.class)
+      (scope_of sub) sub.kind sub.body
   pub closed : IsClosed sub.body
   pub takes : TakesObject sub.kind sub.arguments
   pub arguments : sub.arguments < 65536
@@ -43,11 +44,14 @@ pub record IsResolvedSubroutine (program : Program) (sub : Subroutine) : Type 0 
 -- A program whose names are resolved, with the names of its subroutines: `start` comes first, then those of each class in order of class; no
 -- two have one name, and `Sys.init` is one of them, without arguments.
 pub record IsResolved (program : Program) (names : List (List ℕ)) : Type 0 where
-  pub each : (g : ℕ) → 0 < g → g < length program.subroutines → IsResolvedSubroutine program (subroutine_at program.subroutines g)
+  pub each : (g : ℕ) → 0 < g → g < length program.subroutines
+      → IsResolvedSubroutine program (subroutine_at program.subroutines g)
   pub order : AreInOrder 0 (drop 1 program.subroutines)
-  pub statics : (k : ℕ) → statics_before program.classes (suc k) ≤ statics_before program.classes k + 65535
+  pub statics : (k : ℕ)
+      → statics_before program.classes (suc k) ≤ statics_before program.classes k + 65535
   pub named : length names ≡ length program.subroutines
-  pub apart : (g h : ℕ) → g < length names → h < length names → get_or names g [] ≡ get_or names h [] → g ≡ h
+  pub apart : (g h : ℕ) → g < length names → h < length names
+      → get_or names g [] ≡ get_or names h [] → g ≡ h
   pub init : 0 < program.init
   pub init_there : program.init < length program.subroutines
   pub init_name : get_or names program.init [] ≡ sys_init

@@ -49,19 +49,23 @@ Answers program s VmDone = (key : ℕ) → step program.subroutines key s ≡ Do
 -- Of a machine that runs the code of a program, after n moves.
 pub record VmRunLaw : Type 0 where
   -- Heap and screen and the point are those of the meaning after as many steps as there were commits, over the keys heard, as far as that is tame.
-  pub agrees : (program : Program) (numbers : Numbers) (linked : Linked) (depth most_locals : ℕ) → IsFit program numbers depth most_locals → IsCodeOf program numbers linked
+  pub agrees : (program : Program) (numbers : Numbers) (linked : Linked) (depth most_locals : ℕ)
+      → IsFit program numbers depth most_locals → IsCodeOf program numbers linked
       → (keys : ℕ → ℕ) (state : ℕ → VmState) (n : ℕ) → Moves linked keys state n → TameFor program linked keys state n (steps (moves_trace linked keys state) n)
       → Agrees (meaning_of program.subroutines) (start program) (moves_trace linked keys state) (move_word linked keys state) n
   -- where the meaning has one more tame step, the machine has a next move, and
-  pub moves_on : (program : Program) (numbers : Numbers) (linked : Linked) (depth most_locals : ℕ) → IsFit program numbers depth most_locals → IsCodeOf program numbers linked
+  pub moves_on : (program : Program) (numbers : Numbers) (linked : Linked) (depth most_locals : ℕ)
+      → IsFit program numbers depth most_locals → IsCodeOf program numbers linked
       → (keys : ℕ → ℕ) (state : ℕ → VmState) (n : ℕ) → Moves linked keys state n → TameFor program linked keys state n (suc (steps (moves_trace linked keys state) n))
       → (v : VmState) × ((vm_system linked).step (keys n) (state n) ≡ Some v)
   -- if it makes each move that there is, it makes the next commit, in at most as many moves as the gap
-  pub goes_on : (program : Program) (numbers : Numbers) (linked : Linked) (depth most_locals : ℕ) → IsFit program numbers depth most_locals → IsCodeOf program numbers linked
+  pub goes_on : (program : Program) (numbers : Numbers) (linked : Linked) (depth most_locals : ℕ)
+      → IsFit program numbers depth most_locals → IsCodeOf program numbers linked
       → (keys : ℕ → ℕ) (state : ℕ → VmState) (n : ℕ) → GoesOn linked keys state → Moves linked keys state n → TameFor program linked keys state n (suc (steps (moves_trace linked keys state) n))
       → (k : ℕ) × (k ≤ gap depth most_locals) × Moves linked keys state (n + k) × (steps (moves_trace linked keys state) n < steps (moves_trace linked keys state) (n + k))
   -- It is never full. Where it has come to its end, so has the meaning; and where it strays, the meaning strays, at the same address.
-  pub answers : (program : Program) (numbers : Numbers) (linked : Linked) (depth most_locals : ℕ) → IsFit program numbers depth most_locals → IsCodeOf program numbers linked
+  pub answers : (program : Program) (numbers : Numbers) (linked : Linked) (depth most_locals : ℕ)
+      → IsFit program numbers depth most_locals → IsCodeOf program numbers linked
       → (keys : ℕ → ℕ) (state : ℕ → VmState) (n : ℕ) → Moves linked keys state n → TameFor program linked keys state n (steps (moves_trace linked keys state) n)
       → (after : Listening State) × (run_of (meaning_of program.subroutines) (start program) (heard_keys (moves_trace linked keys state) n) (steps (moves_trace linked keys state) n) ≡ Some after)
       × Answers program after.state (vm_step linked (keys n) (state n))

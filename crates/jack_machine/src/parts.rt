@@ -1,6 +1,6 @@
 //! The parts of what comes first of a text, in the order in which they become values.
 
-ghost use Rattle.std.specs.Prelude.{◌≡◌, ◌++◌, Some, OnOk, OnErr, slice_get};
+ghost use Rattle.std.specs.Prelude.{◌≡◌, ◌≤◌, ◌+◌, ◌^◌, ◌++◌, Some, OnOk, OnErr, MatchResult, slice_get};
 ghost use Rattle.jack_core.specs.Heights.{takes};
 ghost use Rattle.jack_machine.specs.Parts.{parts_in, parts_of};
 ghost use Rattle.jack_machine.specs.Inner.Fronts.{IsPut, IsSameFront, IsFilled, IsBegun};
@@ -93,6 +93,13 @@ pub(crate) fn next_part(front: &Front) -> Option<Part>
     }
 }
 
+// One more part is done. Memory is wanted only where a word does not count them: no memory holds so many.
+fn one_more(done: usize) -> Result<usize, AllocError>
+    ensures { MatchResult result (λ n. n ≡ done + 1) (λ _. 2 ^ 64 ≤ done + 1) }
+{
+    done.checked_add(1).ok_or(AllocError)
+}
+
 /// The part that is next is done: its value stands in place of its operands. Where memory is wanted nothing has
 /// changed.
 pub(crate) fn put(front: &mut Front, part: Part, w: u16) -> Result<(), AllocError>
@@ -100,8 +107,7 @@ pub(crate) fn put(front: &mut Front, part: Part, w: u16) -> Result<(), AllocErro
     ensures done { OnOk result (IsPut part w front.old front.new) }
     ensures refused { OnErr result (IsSameFront front.old front.new) }
 {
-    // No memory holds more parts than can be counted.
-    let done = front.done.checked_add(1).ok_or(AllocError)?;
+    let done = one_more(front.done)?;
     front.values.reserve(1)?;
     let kept = front.values.len() - operands(part) as usize;
     front.values.truncate(kept);

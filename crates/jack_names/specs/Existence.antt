@@ -18,4 +18,5 @@ pub record IsCoreOf (own os : List ClassFile) (core : Core) : Type 0 where
 -- The law of existence: each class is what some tree says, and classes mean some program.
 pub record ExistenceLaw : Type 0 where
   pub tree : (c : ClassFile) → class_length c.class < 2 ^ 62 → (t : Class) × (the_file t ≡ c)
-  pub core : (own os : List ClassFile) → classes_length (own ++ os) < 2 ^ 62 → (core : Core) × IsCoreOf own os core
+  pub core : (own os : List ClassFile) → classes_length (own ++ os) < 2 ^ 62
+      → (core : Core) × IsCoreOf own os core

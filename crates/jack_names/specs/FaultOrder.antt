@@ -33,7 +33,8 @@ Before at told at' told' = IsLess (order at told) (order at' told')
 pub record IsFirstFault (own os : List tree.ClassFile) (told : NameDiagnostic) : Type 0 where
   pub at : Spot
   pub fails : Fails own os at told
-  pub first : (at' : Spot) (told' : NameDiagnostic) → Fails own os at' told' → (told' ≡ told) ⊎ Before at told at' told'
+  pub first : (at' : Spot) (told' : NameDiagnostic) → Fails own os at' told'
+      → (told' ≡ told) ⊎ Before at told at' told'
 
 -- What a class declares, by part and number, at its place.
 pub data Declares (c : tree.Class) : ℕ → ℕ → Place → Type 0 where
@@ -80,4 +81,5 @@ place_order at told = stage told.kind ∷ (if at.shipped then 1 else 0) ∷ at.f
 pub record IsFirstByPlace (own os : List tree.ClassFile) (told : NameDiagnostic) : Type 0 where
   pub at : Spot
   pub fails : Fails own os at told
-  pub first : (at' : Spot) (told' : NameDiagnostic) → Fails own os at' told' → (told' ≡ told) ⊎ IsLess (place_order at told) (place_order at' told')
+  pub first : (at' : Spot) (told' : NameDiagnostic) → Fails own os at' told'
+      → (told' ≡ told) ⊎ IsLess (place_order at told) (place_order at' told')

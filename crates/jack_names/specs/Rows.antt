@@ -71,16 +71,39 @@ Tells c kind x = IsFirstFault (c ∷ []) sys (in_main kind x)
 pub record NameRows : Type 0 where
   pub well_named : IsWellNamed (main ∷ []) sys
   pub file_name : IsFirstFault (main ∷ other ∷ []) sys in_other
-  pub class_twice : IsFirstFault (main ∷ main ∷ []) sys (in_main kinds.ClassTwice (name (codes "Main") 1 7))
-  pub member_twice : Tells (main_with (member tree.Field (name (codes "x") 2 13) ∷ member tree.Static (name (codes "x") 3 14) ∷ []) [] back) kinds.MemberTwice (name (codes "x") 3 14)
-  pub variable_twice : Tells (main_with [] (record { type = tree.Int; names = record { first = name (codes "a") 5 11; more = name (codes "a") 5 14 ∷ [] } } ∷ []) back) kinds.VariableTwice (name (codes "a") 5 14)
-  pub unknown_variable : Tells (main_of (tree.Let (at 6 5) (name (codes "y") 6 9) None one)) kinds.UnknownVariable (name (codes "y") 6 9)
-  pub unknown_class : Tells (main_of (calls (name (codes "Foo") 6 8) (name (codes "f") 6 12) no_arguments)) kinds.UnknownClass (name (codes "Foo") 6 8)
-  pub unknown_subroutine : Tells (main_of (calls (name (codes "Sys") 6 8) (name (codes "halt") 6 12) no_arguments)) kinds.UnknownSubroutine (name (codes "halt") 6 12)
-  pub argument_count : Tells (main_of (calls (name (codes "Sys") 6 8) (name (codes "init") 6 12) (tree.More one tree.NoExpression))) kinds.ArgumentCount (name (codes "init") 6 12)
-  pub method_by_class : Tells (main_of (calls (name (codes "Main") 6 8) (name (codes "m") 6 13) no_arguments)) kinds.MethodByClass (name (codes "m") 6 13)
-  pub function_by_object : Tells (main_of (calls_own (name (codes "main") 6 8))) kinds.FunctionByObject (name (codes "main") 6 8)
-  pub this_in_function : Tells (main_of (tree.Return (at 6 5) (Some (tree.Terms (tree.Value (tree.This (at 6 12))) tree.NoOperation)))) kinds.ThisInFunction (name (codes "this") 6 12)
-  pub field_in_function : Tells (main_with (member tree.Field (name (codes "x") 2 13) ∷ []) [] (tree.Let (at 6 5) (name (codes "x") 6 9) None one)) kinds.FieldInFunction (name (codes "x") 6 9)
-  pub own_in_function : Tells (main_of (calls_own (name (codes "m") 6 8))) kinds.OwnInFunction (name (codes "m") 6 8)
+  pub class_twice : IsFirstFault (main ∷ main ∷ []) sys
+      (in_main kinds.ClassTwice (name (codes "Main") 1 7))
+  pub member_twice : Tells (main_with (member tree.Field (name (codes "x") 2 13)
+      ∷ member tree.Static (name (codes "x") 3 14) ∷ []) [] back)
+      kinds.MemberTwice (name (codes "x") 3 14)
+  pub variable_twice : Tells
+      (main_with [] (record {
+        type = tree.Int;
+        names = record { first = name (codes "a") 5 11; more = name (codes "a") 5 14 ∷ [] };
+      } ∷ []) back)
+      kinds.VariableTwice (name (codes "a") 5 14)
+  pub unknown_variable : Tells (main_of (tree.Let (at 6 5) (name (codes "y") 6 9) None one))
+      kinds.UnknownVariable (name (codes "y") 6 9)
+  pub unknown_class : Tells
+      (main_of (calls (name (codes "Foo") 6 8) (name (codes "f") 6 12) no_arguments))
+      kinds.UnknownClass (name (codes "Foo") 6 8)
+  pub unknown_subroutine : Tells
+      (main_of (calls (name (codes "Sys") 6 8) (name (codes "halt") 6 12) no_arguments))
+      kinds.UnknownSubroutine (name (codes "halt") 6 12)
+  pub argument_count : Tells (main_of (calls (name (codes "Sys") 6 8)
+      (name (codes "init") 6 12) (tree.More one tree.NoExpression)))
+      kinds.ArgumentCount (name (codes "init") 6 12)
+  pub method_by_class : Tells
+      (main_of (calls (name (codes "Main") 6 8) (name (codes "m") 6 13) no_arguments))
+      kinds.MethodByClass (name (codes "m") 6 13)
+  pub function_by_object : Tells (main_of (calls_own (name (codes "main") 6 8)))
+      kinds.FunctionByObject (name (codes "main") 6 8)
+  pub this_in_function : Tells (main_of (tree.Return (at 6 5)
+      (Some (tree.Terms (tree.Value (tree.This (at 6 12))) tree.NoOperation))))
+      kinds.ThisInFunction (name (codes "this") 6 12)
+  pub field_in_function : Tells (main_with (member tree.Field (name (codes "x") 2 13) ∷ []) []
+      (tree.Let (at 6 5) (name (codes "x") 6 9) None one))
+      kinds.FieldInFunction (name (codes "x") 6 9)
+  pub own_in_function : Tells (main_of (calls_own (name (codes "m") 6 8)))
+      kinds.OwnInFunction (name (codes "m") 6 8)
   pub no_main_there : IsFirstFault [] sys no_main

@@ -41,10 +41,13 @@ abbrev pub start : List Command → List Section
 start commands = function 1 sys_init commands ∷ []
 
 pub record LinkRows : Type 0 where
-  pub twice_defined : text_fault false (function 1 f two_labels ∷ function 2 f [] ∷ []) ≡ Some (TwiceDefined f)
+  pub twice_defined : text_fault false (function 1 f two_labels ∷ function 2 f [] ∷ [])
+      ≡ Some (TwiceDefined f)
   pub label_twice : text_fault false (function 1 f two_labels ∷ []) ≡ Some (LabelTwice a)
   pub no_label : text_fault false (function 1 f nowhere ∷ []) ≡ Some (NoLabel b)
   pub no_start : text_fault false (function 1 f [] ∷ []) ≡ Some NoSysInit
   pub none : text_fault false (start calls_none) ≡ None
-  pub no_function : kept_fault 1 (start calls_none) (start calls_none) ≡ Some (NoFunction (codes "Main.g"))
-  pub too_many : kept_fault 1 (start (command.Push segment.Static 240 ∷ [])) (start (command.Push segment.Static 240 ∷ [])) ≡ Some (TooManyStatics 241)
+  pub no_function : kept_fault 1 (start calls_none) (start calls_none)
+      ≡ Some (NoFunction (codes "Main.g"))
+  pub too_many : kept_fault 1 (start (command.Push segment.Static 240 ∷ []))
+      (start (command.Push segment.Static 240 ∷ [])) ≡ Some (TooManyStatics 241)

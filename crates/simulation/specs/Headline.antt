@@ -21,7 +21,8 @@ module _ {S : Type 0} (meaning : System S) (start : S) (t : Trace) (word : ℕ �
 -- At cycle n the meaning has come, over the keys heard, to a state to which the machine's is related by R.
 pub record Meets {U L : Type 0} (up : System U) (start : U) (low : System L) (R : U → L → Type 0) (keys : ℕ → ℕ) (state : ℕ → L) (n : ℕ) : Type 0 where
   pub after : Listening U
-  pub run : run_of up start (heard_keys (trace_of low keys state) n) (steps (trace_of low keys state) n) ≡ Some after
+  pub run : run_of up start (heard_keys (trace_of low keys state) n)
+      (steps (trace_of low keys state) n) ≡ Some after
   pub met : R after.state (state n)
 
 -- The lower machine is in these states at the cycles, under these keys, in its first `until` cycles. It starts where the layer starts,

@@ -77,7 +77,10 @@ pub record BudgetLaw : Type 0 where
   -- a program has one budget
   pub one : (program : Program) (v w : ℕ) → IsBudget program v → IsBudget program w → v ≡ w
   -- Each program whose names are resolved has a budget, if it is linked, and the image of its code has no more words.
-  pub has : (core : Core) (linked : Linked) → IsResolvedCore core → IsVmCodeOf core linked → (words : ℕ) × IsBudget (the_program core) words
-  pub within : (core : Core) (linked : Linked) → IsResolvedCore core → IsVmCodeOf core linked → (words : ℕ) → IsBudget (the_program core) words → length (image_of linked) ≤ words
+  pub has : (core : Core) (linked : Linked) → IsResolvedCore core → IsVmCodeOf core linked
+      → (words : ℕ) × IsBudget (the_program core) words
+  pub within : (core : Core) (linked : Linked) → IsResolvedCore core → IsVmCodeOf core linked
+      → (words : ℕ) → IsBudget (the_program core) words → length (image_of linked) ≤ words
   -- A program whose image is too large has a budget of as many words, and of more than there is room for.
-  pub too_large : (core : Core) (w : ℕ) → IsResolvedCore core → IsNotBuilt core (LargeImage w) → (words : ℕ) → IsBudget (the_program core) words → (w ≤ words) × (image_words < words)
+  pub too_large : (core : Core) (w : ℕ) → IsResolvedCore core → IsNotBuilt core (LargeImage w)
+      → (words : ℕ) → IsBudget (the_program core) words → (w ≤ words) × (image_words < words)

@@ -39,7 +39,8 @@ HeadlineLaw = (program : Program) (numbers : Numbers) (linked : Linked) (depth m
 -- At cycle n the meaning has come, over the keys heard, to a state that the computer holds: by way of a state of the virtual machine.
 pub record StandsBehind (program : Program) (numbers : Numbers) (linked : Linked) (depth : ℕ) (image : List ℕ) (map : Map) (keys : ℕ → ℕ) (n : ℕ) : Type 0 where
   pub after : Listening State
-  pub run : run_of (meaning_of program.subroutines) (start program) (heard_keys (run_trace image map keys) n) (steps (run_trace image map keys) n) ≡ Some after
+  pub run : run_of (meaning_of program.subroutines) (start program)
+      (heard_keys (run_trace image map keys) n) (steps (run_trace image map keys) n) ≡ Some after
   pub fits : (meaning_of program.subroutines).fits after.state ≡ true
   pub between : VmState
   pub matches : Match program numbers linked depth after.state between

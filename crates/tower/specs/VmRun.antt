@@ -90,7 +90,8 @@ pub record VmFollows (program : Program) (linked : Linked) (keys : ℕ → ℕ) 
       → (after : Listening meaning.State) × (run_of (meaning_of program.subroutines) (start program) (heard_keys (vm_trace linked keys) n) (steps (vm_trace linked keys) n) ≡ Some after)
       × Answers program after.state (outcome_at linked keys n)
   -- Where the meaning has one more tame step, the machine has a next move,
-  pub moves_on : IsTameFor program linked keys n (suc (steps (vm_trace linked keys) n)) → (s : State) × (state_after (outcome_at linked keys n) ≡ Some s)
+  pub moves_on : IsTameFor program linked keys n (suc (steps (vm_trace linked keys) n))
+      → (s : State) × (state_after (outcome_at linked keys n) ≡ Some s)
   -- and it makes the next commit, in at most as many moves as the gap of the program has words.
   pub most : ℕ
   pub gap : IsGap program most

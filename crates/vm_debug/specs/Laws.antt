@@ -21,14 +21,17 @@ use Rattle.vm_debug.specs.Meanings.{Names, AreStaticsOf, view_of}
 use Rattle.vm_debug.specs.Views.{IsPlacesOf, HaveCommands, FitsFrame, AreStatics, view_at}
 
 pub record WalkOfLaw : Type 0 where
-  pub walk_of : (l : Linked) (places : Places) (index : ℕ → ℕ) (v : State) (s : Machine) (f g : Frame) (below : List Frame) (k : ℕ) (fn : LinkedFunction) (sub : SubPlaces)
+  pub walk_of : (l : Linked) (places : Places) (index : ℕ → ℕ) (v : State) (s : Machine)
+      (f g : Frame) (below : List Frame) (k : ℕ) (fn : LinkedFunction) (sub : SubPlaces)
       → IsImage l → IsPlacesOf l places index → StandsFor (location l) l v s → v.frames ≡ f ∷ g ∷ below → words_in_use v.frames + 8 ≤ 1792 → HaveCommands l (f ∷ g ∷ below)
       → f.function ≡ Some k → slice_get l.functions k ≡ Some fn → sub_at places (index fn.number) ≡ Some sub → FitsFrame sub f → AreStatics (statics_of (slice_get places.classes sub.class))
       → Walk places s.memory s.pc (view_at l places index sub v f (g ∷ below))
 
 pub record ViewOfLaw : Type 0 where
   -- the same of a state of the meaning that the virtual machine's matches
-  pub view_of : (program : Program) (linked : Linked) (is : IsLinkedProgram program linked) (places : Places) (index : ℕ → ℕ) (s : MeantState) (v : State) (c : Machine) (f g : MeantFrame) (below : List MeantFrame) (sub : SubPlaces)
+  pub view_of : (program : Program) (linked : Linked) (is : IsLinkedProgram program linked)
+      (places : Places) (index : ℕ → ℕ) (s : MeantState) (v : State) (c : Machine)
+      (f g : MeantFrame) (below : List MeantFrame) (sub : SubPlaces)
       → IsImage linked → IsPlacesOf linked places index → Match program is.numbers linked is.depth s v → StandsFor (location linked) linked v c → s.frames ≡ f ∷ g ∷ below → stack_words s.frames + 8 ≤ 1792
       → sub_at places (index f.subroutine) ≡ Some sub → Names sub (subroutine_at program.subroutines f.subroutine)
       → AreStaticsOf program linked (subroutine_at program.subroutines f.subroutine).class (statics_of (slice_get places.classes sub.class))

@@ -63,13 +63,18 @@ pub data StandsAt (s : Standing) (t : Subroutine) : meaning.Statement → Place 
 
 pub record NumbersLaw : Type 0 where
   -- a number is one statement's, and at its place that statement begins
-  pub one : (n : ℕ) (ts : Statements) (k : ℕ) (u v : Statement) → HasNumber n ts k u → HasNumber n ts k v → u ≡ v
-  pub place : (t : Subroutine) (k : ℕ) (u : Statement) → HasNumber 1 t.statements k u → place_of t k ≡ first_place u
+  pub one : (n : ℕ) (ts : Statements) (k : ℕ) (u v : Statement) → HasNumber n ts k u
+      → HasNumber n ts k v → u ≡ v
+  pub place : (t : Subroutine) (k : ℕ) (u : Statement) → HasNumber 1 t.statements k u
+      → place_of t k ≡ first_place u
   -- what it means has this number, and is in what all mean
-  pub number : (s : Standing) (k : ℕ) (u : Statement) → meaning.number_of (statement_meaning s k u) ≡ k
-  pub meant : (s : Standing) (n : ℕ) (ts : Statements) (k : ℕ) (u : Statement) → HasNumber n ts k u → IsIn (block_meaning s n ts) (statement_meaning s k u)
+  pub number : (s : Standing) (k : ℕ) (u : Statement)
+      → meaning.number_of (statement_meaning s k u) ≡ k
+  pub meant : (s : Standing) (n : ℕ) (ts : Statements) (k : ℕ) (u : Statement) → HasNumber n ts k u
+      → IsIn (block_meaning s n ts) (statement_meaning s k u)
   -- each statement of the meaning of a body stands at the place of its number
-  pub body : (s : Standing) (fields : ℕ) (t : Subroutine) (w : meaning.Statement) → IsIn (body_meaning s fields t) w → StandsAt s t w (place_of t (meaning.number_of w))
+  pub body : (s : Standing) (fields : ℕ) (t : Subroutine) (w : meaning.Statement)
+      → IsIn (body_meaning s fields t) w → StandsAt s t w (place_of t (meaning.number_of w))
 
 -- the tree of the subroutine of a number, which means what the program has of this number
 pub record HasTree (classes : List Class) (program : meaning.Program) (g : ℕ) : Type 0 where
@@ -77,7 +82,8 @@ pub record HasTree (classes : List Class) (program : meaning.Program) (g : ℕ) 
   pub there : tree_at (trees_of classes) g ≡ Some tree
   pub standing : Standing
   pub fields : ℕ
-  pub means : subroutine_at program.subroutines g ≡ subroutine_meaning standing fields (the_subroutine tree)
+  pub means : subroutine_at program.subroutines g
+      ≡ subroutine_meaning standing fields (the_subroutine tree)
 
 -- A range is at the place where the statement of its number stands, in the meaning of its subroutine.
 abbrev pub StandingLaw : Type 0

@@ -23,8 +23,10 @@ use Rattle.vm_debug.specs.Views.{IsPlacesOf}
 -- the statics of its class.
 pub record ArePlacesOf (program : Program) (linked : Linked) (places : Places) : Type 0 where
   pub image : IsPlacesOf linked places (λ g. g)
-  pub names : (g : ℕ) (sub : SubPlaces) → sub_at places g ≡ Some sub → Names sub (subroutine_at program.subroutines g)
-  pub statics : (g : ℕ) (sub : SubPlaces) → sub_at places g ≡ Some sub → AreStaticsOf program linked (subroutine_at program.subroutines g).class (statics_of (slice_get places.classes sub.class))
+  pub names : (g : ℕ) (sub : SubPlaces) → sub_at places g ≡ Some sub
+      → Names sub (subroutine_at program.subroutines g)
+  pub statics : (g : ℕ) (sub : SubPlaces) → sub_at places g ≡ Some sub → AreStaticsOf program linked
+      (subroutine_at program.subroutines g).class (statics_of (slice_get places.classes sub.class))
 
 -- These are the places of a folder's own classes and of the operating system's, of the linked code of their program, and of its image, which has
 -- this map.

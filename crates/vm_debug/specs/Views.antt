@@ -30,8 +30,11 @@ pub record IsSubOf (l : Linked) (places : Places) (k number : ℕ) : Type 0 wher
 -- the numbers that the program gives its subroutines to those of the places.
 pub record IsPlacesOf (l : Linked) (places : Places) (index : ℕ → ℕ) : Type 0 where
   pub start : index 0 ≡ 0
-  pub ranges : (a : ℕ) → point_in places.ranges a ≡ option_map (λ (p : Point). record { sub = index p.sub; number = p.number }) (image.point_in (points_of l) a)
-  pub subs : (k : ℕ) (f : LinkedFunction) → slice_get l.functions k ≡ Some f → IsSubOf l places k (index f.number)
+  pub ranges : (a : ℕ) → point_in places.ranges a
+      ≡ option_map (λ (p : Point). record { sub = index p.sub; number = p.number })
+      (image.point_in (points_of l) a)
+  pub subs : (k : ℕ) (f : LinkedFunction) → slice_get l.functions k ≡ Some f
+      → IsSubOf l places k (index f.number)
 
 -- each of these frames has a next command
 abbrev pub HaveCommands : Linked → List Frame → Type 0

@@ -178,13 +178,20 @@ pub record After (c : Shape) (effect : (ℕ → ℕ) → (ℕ → ℕ) → Type 
 -- The instructions of each command do what the command does, in any image and at any place.
 pub record CommandsGo : Type 0 where
   -- from where it is ready, the command has its effect
-  pub goes : (image : List ℕ) (at : Routines) (c : Shape) (s : Machine) → IsAt image at c s → Ready c s.memory → Goes image at c (MayStore c s.memory) (After c (Effect c s.pc) s) s
+  pub goes : (image : List ℕ) (at : Routines) (c : Shape) (s : Machine) → IsAt image at c s
+      → Ready c s.memory → Goes image at c (MayStore c s.memory) (After c (Effect c s.pc) s) s
   -- A push of the word at 24,576 reads the key once, in the fifth step before its end, and pushes it.
-  pub hears : (image : List ℕ) (at : Routines) (c : Shape) (s : Machine) → IsAt image at c s → HasRoom 1 s.memory → PushesFrom c s.memory keyboard
+  pub hears : (image : List ℕ) (at : Routines) (c : Shape) (s : Machine) → IsAt image at c s
+      → HasRoom 1 s.memory → PushesFrom c s.memory keyboard
       → DoesHearing image (IsInside at s.pc c) (last_of at s.pc c) ⊥ (λ key. After c (λ m after. Pushed m after key) s) (size c - 5) 3 s
   -- A push of any other word has the effect of some word: no key is read.
-  pub strays : (image : List ℕ) (at : Routines) (c : Shape) (s : Machine) (address : ℕ) → IsAt image at c s → HasRoom 1 s.memory → PushesFrom c s.memory address → address ≢ keyboard
+  pub strays : (image : List ℕ) (at : Routines) (c : Shape) (s : Machine) (address : ℕ)
+      → IsAt image at c s → HasRoom 1 s.memory → PushesFrom c s.memory address → address ≢ keyboard
       → Goes image at c ⊥ (λ t. (v : ℕ) × After c (λ m after. Pushed m after v) s t) s
   -- It comes to its last instruction also where the stack is full, and so does a pop to any address: nothing is said of what that writes.
-  pub push_ends : (image : List ℕ) (at : Routines) (c : Shape) (s : Machine) (address : ℕ) → IsAt image at c s → PushesFrom c s.memory address → address ≢ keyboard → Goes image at c (Unit {0}) (λ t. Unit {0}) s
-  pub pop_ends : (image : List ℕ) (at : Routines) (c : Shape) (s : Machine) (address : ℕ) → IsAt image at c s → HasValues 1 s.memory → PopsTo c s.memory address → Goes image at c (Unit {0}) (λ t. Unit {0}) s
+  pub push_ends : (image : List ℕ) (at : Routines) (c : Shape) (s : Machine) (address : ℕ)
+      → IsAt image at c s → PushesFrom c s.memory address → address ≢ keyboard
+      → Goes image at c (Unit {0}) (λ t. Unit {0}) s
+  pub pop_ends : (image : List ℕ) (at : Routines) (c : Shape) (s : Machine) (address : ℕ)
+      → IsAt image at c s → HasValues 1 s.memory → PopsTo c s.memory address
+      → Goes image at c (Unit {0}) (λ t. Unit {0}) s

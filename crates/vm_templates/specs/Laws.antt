@@ -25,17 +25,22 @@ IsFound at (Some r) = routine_at at r < image_words
 pub record TemplatesFit : Type 0 where
   pub number : (at : Routines) (here : ℕ) (c : Shape) → length (template at here c) ≡ size c
   pub some : (c : Shape) → 1 ≤ size c
-  pub well_formed : (at : Routines) (here : ℕ) (c : Shape) → IsShape c → IsFound at (routine_of c) → here + size c ≤ image_words → All WellFormed (template at here c)
+  pub well_formed : (at : Routines) (here : ℕ) (c : Shape) → IsShape c → IsFound at (routine_of c)
+      → here + size c ≤ image_words → All WellFormed (template at here c)
   pub routine_number : (r : Routine) (at : ℕ) → length (routine_code r at) ≡ routine_size r
-  pub routine_well_formed : (r : Routine) (at : ℕ) → at + routine_size r ≤ image_words → All WellFormed (routine_code r at)
+  pub routine_well_formed : (r : Routine) (at : ℕ) → at + routine_size r ≤ image_words
+      → All WellFormed (routine_code r at)
   pub start_number : (at : Routines) (entry : ℕ) → length (start_code at entry) ≡ start_size
-  pub start_well_formed : (at : Routines) (entry : ℕ) → entry < image_words → at.call < image_words → All WellFormed (start_code at entry)
+  pub start_well_formed : (at : Routines) (entry : ℕ) → entry < image_words → at.call < image_words
+      → All WellFormed (start_code at entry)
 
 -- Instructions whose words are an image stand in it, and so do their parts.
 pub record InstructionsStand : Type 0 where
   pub all : (instrs : List Instr) → All WellFormed instrs → Stands (map word_of instrs) 0 instrs
-  pub words : (instrs : List Instr) → All WellFormed instrs → (k : ℕ) → slice_index (map word_of instrs) k < 65536
-  pub parts : (image : List ℕ) (here : ℕ) (a b : List Instr) → Stands image here (a ++ b) → Stands image here a × Stands image (here + length a) b
+  pub words : (instrs : List Instr) → All WellFormed instrs → (k : ℕ)
+      → slice_index (map word_of instrs) k < 65536
+  pub parts : (image : List ℕ) (here : ℕ) (a b : List Instr) → Stands image here (a ++ b)
+      → Stands image here a × Stands image (here + length a) b
 
 -- before the call of Sys.init: the stack is empty, and all else is 0
 pub record IsSet (s : Machine) : Type 0 where
@@ -46,8 +51,11 @@ pub record IsSet (s : Machine) : Type 0 where
 
 -- The start comes in four quiet steps to `call Sys.init 0`. After it stand `pop temp 0` and the endless loop.
 pub record Starts : Type 0 where
-  pub sets : (image : List ℕ) (at : Routines) (entry : ℕ) → Stands image 0 (start_code at entry) → Reaches image (Quiet image (λ k. k < 4)) IsSet 4 start
-  pub stands : (image : List ℕ) (at : Routines) (entry : ℕ) → Stands image 0 (start_code at entry) → Stands image 4 (template at 4 (Call entry 0)) × Stands image 16 (template at 16 (PopWord 5)) × Stands image endless_loop (endless endless_loop)
+  pub sets : (image : List ℕ) (at : Routines) (entry : ℕ) → Stands image 0 (start_code at entry)
+      → Reaches image (Quiet image (λ k. k < 4)) IsSet 4 start
+  pub stands : (image : List ℕ) (at : Routines) (entry : ℕ) → Stands image 0 (start_code at entry)
+      → Stands image 4 (template at 4 (Call entry 0)) × Stands image 16 (template at 16 (PopWord 5))
+      × Stands image endless_loop (endless endless_loop)
 
 -- In its endless loop the computer does nothing that can be seen.
 abbrev pub LoopsIdle : Type 0

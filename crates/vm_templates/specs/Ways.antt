@@ -24,16 +24,28 @@ module _ {U : Type 0} (up : System U) (image : List ℕ) (map : Map) (loop : ℕ
 
 pub record StepsAreWays (U : Type 0) : Type 0 where
   -- a command that hears no key
-  pub deaf : (up : System U) (image : List ℕ) (map : Map) (loop : ℕ) (r : U → Machine → Bool) (u : U) (inside : ℕ → Bool) (last : ℕ) → ((k : ℕ) → slice_index image k < 65536) → IsOwn up map loop u (λ k. inside k ≡ true) last → up.halted u ≡ false → up.hears u ≡ false
+  pub deaf : (up : System U) (image : List ℕ) (map : Map) (loop : ℕ) (r : U → Machine → Bool)
+      (u : U) (inside : ℕ → Bool) (last : ℕ) → ((k : ℕ) → slice_index image k < 65536)
+      → IsOwn up map loop u (λ k. inside k ≡ true) last → up.halted u ≡ false → up.hears u ≡ false
       → (goal : Machine → Bool) → LeadsOn up image map loop r u (λ key. goal) → (n : ℕ) (s : Machine) → ShowsWords up image map loop r u s → Does image (λ k. inside k ≡ true) last (Unit {0}) (λ t. goal t ≡ true) n s → WayWithin up image map loop r u (suc n) s
   -- a command that hears the key, which is read once
-  pub hearing : (up : System U) (image : List ℕ) (map : Map) (loop : ℕ) (r : U → Machine → Bool) (u : U) (inside : ℕ → Bool) (last : ℕ) → ((k : ℕ) → slice_index image k < 65536) → IsOwn up map loop u (λ k. inside k ≡ true) last → up.halted u ≡ false → up.hears u ≡ true
+  pub hearing : (up : System U) (image : List ℕ) (map : Map) (loop : ℕ) (r : U → Machine → Bool)
+      (u : U) (inside : ℕ → Bool) (last : ℕ) → ((k : ℕ) → slice_index image k < 65536)
+      → IsOwn up map loop u (λ k. inside k ≡ true) last → up.halted u ≡ false → up.hears u ≡ true
       → (goal : ℕ → Machine → Bool) → LeadsOn up image map loop r u goal → (n m : ℕ) (s : Machine) → ShowsWords up image map loop r u s → DoesHearing image (λ k. inside k ≡ true) last (Unit {0}) (λ key t. goal key t ≡ true) n m s → WayWithin up image map loop r u (n + suc (suc m)) s
   -- a command that goes astray: the upper machine makes no step
-  pub straying : (up : System U) (image : List ℕ) (map : Map) (loop : ℕ) (r : U → Machine → Bool) (u : U) (inside : ℕ → Bool) (last : ℕ) → ((k : ℕ) → slice_index image k < 65536) → IsOwn up map loop u (λ k. inside k ≡ true) last → up.halted u ≡ false → up.hears u ≡ false
+  pub straying : (up : System U) (image : List ℕ) (map : Map) (loop : ℕ) (r : U → Machine → Bool)
+      (u : U) (inside : ℕ → Bool) (last : ℕ) → ((k : ℕ) → slice_index image k < 65536)
+      → IsOwn up map loop u (λ k. inside k ≡ true) last → up.halted u ≡ false → up.hears u ≡ false
       → ((key : ℕ) → IsKey key → up.step key u ≡ None) → (n : ℕ) (s : Machine) → ShowsWords up image map loop r u s → Does image (λ k. inside k ≡ true) last (Unit {0}) (λ t. Unit {0}) n s → WayWithin up image map loop r u (suc n) s
   -- both at their end
-  pub resting : (up : System U) (image : List ℕ) (map : Map) (loop : ℕ) (r : U → Machine → Bool) (u : U) → ((k : ℕ) → slice_index image k < 65536) → (n : ℕ) (s : Machine) → up.halted u ≡ true → in_loop loop s ≡ true → (map.points s.pc ≡ up.point u) ⊎ (map.points s.pc ≡ None) → ShowsWords up image map loop r u s → WayWithin up image map loop r u (suc n) s
+  pub resting : (up : System U) (image : List ℕ) (map : Map) (loop : ℕ) (r : U → Machine → Bool)
+      (u : U) → ((k : ℕ) → slice_index image k < 65536) → (n : ℕ) (s : Machine) → up.halted u ≡ true
+      → in_loop loop s ≡ true → (map.points s.pc ≡ up.point u) ⊎ (map.points s.pc ≡ None)
+      → ShowsWords up image map loop r u s → WayWithin up image map loop r u (suc n) s
   -- quiet steps before the first related state
-  pub opening : (up : System U) (image : List ℕ) (map : Map) (loop : ℕ) (r : U → Machine → Bool) (u : U) (inside : ℕ → Bool) → ((k : ℕ) → slice_index image k < 65536) → ((k : ℕ) → inside k ≡ true → (map.points k ≡ up.point u) ⊎ (map.points k ≡ None)) → ((k : ℕ) → inside k ≡ true → map.commits k ≡ false)
+  pub opening : (up : System U) (image : List ℕ) (map : Map) (loop : ℕ)
+      (r : U → Machine → Bool) (u : U) (inside : ℕ → Bool) → ((k : ℕ) → slice_index image k < 65536)
+      → ((k : ℕ) → inside k ≡ true → (map.points k ≡ up.point u) ⊎ (map.points k ≡ None))
+      → ((k : ℕ) → inside k ≡ true → map.commits k ≡ false)
       → (n : ℕ) (s : Machine) → ShowsWords up image map loop r u s → Reaches image (Quiet image (λ k. inside k ≡ true)) (λ t. r u t ≡ true) n s → Opens up (hack_system image map loop) (λ l. 1) (Related r) u n s

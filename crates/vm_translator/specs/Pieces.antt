@@ -34,9 +34,11 @@ pub record PiecesFit : Type 0 where
   -- the sign or the operator of an expression
   pub operator : (o : Operation) → words (step.Operate o ∷ []) ≤ operation_words o
   -- `a[i]`, after the code of a and i
-  pub load : words (step.Operate operation.Add ∷ step.Pop segment.Pointer 1 ∷ step.Push segment.That 0 ∷ []) ≤ 18
+  pub load : words
+      (step.Operate operation.Add ∷ step.Pop segment.Pointer 1 ∷ step.Push segment.That 0 ∷ []) ≤ 18
   -- `let a[i] = e`, beside the code of a, i and e
-  pub store : words (step.Operate operation.Add ∷ step.Pop segment.Temp 0 ∷ step.Pop segment.Pointer 1 ∷ step.Push segment.Temp 0 ∷ step.Pop segment.That 0 ∷ []) ≤ 28
+  pub store : words (step.Operate operation.Add ∷ step.Pop segment.Temp 0
+      ∷ step.Pop segment.Pointer 1 ∷ step.Push segment.Temp 0 ∷ step.Pop segment.That 0 ∷ []) ≤ 28
   -- `let x = e`, after the code of e
   pub assignment : (g : Segment) (i : ℕ) → words (step.Pop g i ∷ []) ≤ 12
   -- a call, after the code of its arguments, and `do`, after its call
@@ -46,6 +48,7 @@ pub record PiecesFit : Type 0 where
   pub branches : (p q r : ℕ) → words (step.IfGoto p ∷ step.Goto q ∷ step.Goto r ∷ []) ≤ 9
   pub return : words (step.Return ∷ []) ≤ 8
   -- the entry of a subroutine, also that of a method, which sets `this`
-  pub entry : (n : ℕ) → words (step.Function n ∷ step.Push segment.Argument 0 ∷ step.Pop segment.Pointer 0 ∷ []) ≤ 14 + 4 * n
+  pub entry : (n : ℕ) → words (step.Function n ∷ step.Push segment.Argument 0
+      ∷ step.Pop segment.Pointer 0 ∷ []) ≤ 14 + 4 * n
   -- the start code, all routines, and the word that may be added after the functions
   pub start : start_size + words_shared all_routines + 1 ≤ 256

@@ -40,9 +40,11 @@ with_more file functions = record file { functions = file.functions ++ functions
 -- The function of a subroutine comes to the file of its class.
 pub record AddsFunction (around : Around) (number : ℕ) (sub : Subroutine) (old new : List File) : Type 0 where
   pub count : length new ≡ length old
-  pub each : (k : ℕ) → k < length old → get_or new k no_file ≡ with_more (get_or old k no_file) (if sub.class == k then function_of around number sub ∷ [] else [])
+  pub each : (k : ℕ) → k < length old → get_or new k no_file ≡ with_more (get_or old k no_file)
+      (if sub.class == k then function_of around number sub ∷ [] else [])
 
 -- These are the files of the classes, with the functions among subroutines that are numbered from 1.
 pub record AreFiles (classes : List Class) (names class_names : List (List ℕ)) (subs : List Subroutine) (files : List File) : Type 0 where
   pub count : length files ≡ length classes
-  pub each : (k : ℕ) → k < length classes → get_or files k no_file ≡ file_of (get_or class_names k []) (functions_of (around_class classes names k) k 1 subs)
+  pub each : (k : ℕ) → k < length classes → get_or files k no_file
+      ≡ file_of (get_or class_names k []) (functions_of (around_class classes names k) k 1 subs)

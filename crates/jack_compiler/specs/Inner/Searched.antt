@@ -20,8 +20,10 @@ parts_calls (p ∷ ps) = part_calls p ++ parts_calls ps
 
 -- More is marked: only these subroutines, and each of them that there is a mark for. Each new mark waits.
 pub record Visits (calls : List ℕ) (old new : Search) : Type 0 where
-  pub marks : Marks (Contains calls) old.marks.items new.marks.items old.waiting.items new.waiting.items
-  pub all : (g : ℕ) → g < length new.marks.items → Contains calls g → is_marked new.marks.items g ≡ true
+  pub marks : Marks (Contains calls) old.marks.items new.marks.items old.waiting.items
+      new.waiting.items
+  pub all : (g : ℕ) → g < length new.marks.items → Contains calls g
+      → is_marked new.marks.items g ≡ true
 
 -- What is known while some wait: the calls of the others are marked.
 pub record Looks (program : Program) (marks : List Bool) (pending : List ℕ) : Type 0 where
@@ -29,7 +31,8 @@ pub record Looks (program : Program) (marks : List Bool) (pending : List ℕ) : 
   pub only : (g : ℕ) → is_marked marks g ≡ true → IsLinked program g
   pub start : program.init < length marks → is_marked marks program.init ≡ true
   pub waiting : (g : ℕ) → waits pending g ≡ true → is_marked marks g ≡ true
-  pub closed : (g h : ℕ) → is_marked marks g ≡ true → Contains (text_calls (subroutine_at program.subroutines g).body) h → h < length marks
+  pub closed : (g h : ℕ) → is_marked marks g ≡ true
+      → Contains (text_calls (subroutine_at program.subroutines g).body) h → h < length marks
       → (waits pending g ≡ true) ⊎ (is_marked marks h ≡ true)
 
 -- The marks are at the subroutines that the program can come to.

@@ -37,7 +37,8 @@ AreCalling m (x ∷ xs) i = IsNumber m (called_name x.command) i ⊎ AreCalling 
 pub record Marks (May : ℕ → Type 0) (old new : List Bool) (pending waiting : List ℕ) : Type 0 where
   pub same_length : length new ≡ length old
   pub kept : (i : ℕ) → is_marked old i ≡ true → is_marked new i ≡ true
-  pub added : (i : ℕ) → is_marked new i ≡ true → (is_marked old i ≡ true) ⊎ (May i × (waits waiting i ≡ true))
+  pub added : (i : ℕ) → is_marked new i ≡ true
+      → (is_marked old i ≡ true) ⊎ (May i × (waits waiting i ≡ true))
   pub still : (i : ℕ) → waits pending i ≡ true → waits waiting i ≡ true
   pub more : (i : ℕ) → waits waiting i ≡ true → (waits pending i ≡ true) ⊎ (is_marked new i ≡ true)
   pub less : 2 * unmarked_count new + length waiting ≤ 2 * unmarked_count old + length pending

@@ -1,5 +1,5 @@
 -- The part has its operands, and its value stands in their place.
-use Rattle.std.proofs.Common.{◌≡◌, ◌≤◌, ◌-◌, ◌+◌, length, drop, take, ◌++◌, ◌∷◌, [], ap, ◌∙◌, arith, rules}
+use Rattle.std.proofs.Common.{◌≡◌, ◌≤◌, ◌-◌, ◌+◌, length, drop, take, ◌++◌, ◌∷◌, [], ap, ◌∙◌, arith}
 use Rattle.jack_core.specs.Heights.{takes, height}
 use Rattle.jack_machine.specs.Looks.{spared_values}
 use Rattle.jack_machine.specs.Parts.{parts_of}
@@ -14,7 +14,7 @@ overflow_sub-kept c =
 pub invariant_of-front-2 : goal.invariant_of-front-2
 invariant_of-front-2 c =
     let front = c.args.front.now in
-    let more : c.in_ok-done.done ≡ front.done + 1 = search rules in
+    let more : c.in_ok-done.done ≡ front.done + 1 = c.in_ok-done.ensures in
     let enough : takes c.args.part ≤ length front.values.items = has_operands front c.args.part c.requires in
     let kept : c.len.result - c.operands.result ≡ length front.values.items - takes c.args.part = omega (arith, c.operands.ensures, c.len.ensures, c.reserve.ensures.len, front.values.ok.0) in
     let values : c.push_reserved.new.self.items ≡ spared_values c.args.part front.values.items ++ c.args.w ∷ [] =
