@@ -34,10 +34,16 @@ HasFolder there line = Unit {0}
 -- neither: so an honest shelf leaves no choice among Done, Refused and ReadFault. (A folder that is not there may be
 -- read as an empty one.)
 pub record IsExact (files : Files) (line : Line) : Type 0 where
-  pub prints : HasOneText line → (out err out' err' : List ℕ) → Prints (Some files) line out err → Prints (Some files) line out' err' → (out ≡ out') × (err ≡ err')
-  pub refuses : (out before told out' before' told' : List ℕ) → Refuses (Some files) line out before told → Refuses (Some files) line out' before' told' → (out ≡ out') × (told ≡ told') × (before ≡ before')
-  pub apart : (out err out' before told : List ℕ) → Prints (Some files) line out err → Refuses (Some files) line out' before told → ⊥
-  pub lacking : (there : List ℕ → Bool) → HasFolder there line → Lacks there files line → (out before told : List ℕ) → (Prints (Some files) line out before → ⊥) × (Refuses (Some files) line out before told → ⊥)
+  pub prints : HasOneText line → (out err out' err' : List ℕ) → Prints (Some files) line out err
+      → Prints (Some files) line out' err' → (out ≡ out') × (err ≡ err')
+  pub refuses : (out before told out' before' told' : List ℕ)
+      → Refuses (Some files) line out before told → Refuses (Some files) line out' before' told'
+      → (out ≡ out') × (told ≡ told') × (before ≡ before')
+  pub apart : (out err out' before told : List ℕ) → Prints (Some files) line out err
+      → Refuses (Some files) line out' before told → ⊥
+  pub lacking : (there : List ℕ → Bool)
+      → HasFolder there line → Lacks there files line → (out before told : List ℕ)
+      → (Prints (Some files) line out before → ⊥) × (Refuses (Some files) line out before told → ⊥)
 
 -- by what a line reads
 abbrev pub ClassesExactLaw : Type 0
@@ -59,12 +65,25 @@ SoakExactLaw = (files : Files) (seed count : ℕ) → IsExact files (soak seed c
 -- refused with at most one line, but for the nets of a loop, and differs in at most one line. It is not two of done,
 -- refused and different.
 pub record TestIsExact (files : Files) (path : List ℕ) (gates simplify : Bool) : Type 0 where
-  pub prints : (out err out' err' : List ℕ) → Prints (Some files) (test path gates simplify) out err → Prints (Some files) (test path gates simplify) out' err' → (out ≡ out') × (err ≡ err')
-  pub refuses : (out before told out' before' told' : List ℕ) → Refuses (Some files) (test path gates simplify) out before told → Refuses (Some files) (test path gates simplify) out' before' told' → (out ≡ out') × (before ≡ before') × SameButNets (script_at (Some files) path gates) told told'
-  pub differs : (out before told out' before' told' : List ℕ) → Disagrees (Some files) (test path gates simplify) out before told → Disagrees (Some files) (test path gates simplify) out' before' told' → (out ≡ out') × (before ≡ before') × (told ≡ told')
-  pub apart : (out err out' before told : List ℕ) → Prints (Some files) (test path gates simplify) out err → Refuses (Some files) (test path gates simplify) out' before told → ⊥
-  pub agrees : (out err out' before told : List ℕ) → Prints (Some files) (test path gates simplify) out err → Disagrees (Some files) (test path gates simplify) out' before told → ⊥
-  pub alone : (out before told out' before' told' : List ℕ) → Refuses (Some files) (test path gates simplify) out before told → Disagrees (Some files) (test path gates simplify) out' before' told' → ⊥
+  pub prints : (out err out' err' : List ℕ) → Prints (Some files) (test path gates simplify) out err
+      → Prints (Some files) (test path gates simplify) out' err' → (out ≡ out') × (err ≡ err')
+  pub refuses : (out before told out' before' told' : List ℕ)
+      → Refuses (Some files) (test path gates simplify) out before told
+      → Refuses (Some files) (test path gates simplify) out' before' told' → (out ≡ out')
+      × (before ≡ before') × SameButNets (script_at (Some files) path gates) told told'
+  pub differs : (out before told out' before' told' : List ℕ)
+      → Disagrees (Some files) (test path gates simplify) out before told
+      → Disagrees (Some files) (test path gates simplify) out' before' told'
+      → (out ≡ out') × (before ≡ before') × (told ≡ told')
+  pub apart : (out err out' before told : List ℕ)
+      → Prints (Some files) (test path gates simplify) out err
+      → Refuses (Some files) (test path gates simplify) out' before told → ⊥
+  pub agrees : (out err out' before told : List ℕ)
+      → Prints (Some files) (test path gates simplify) out err
+      → Disagrees (Some files) (test path gates simplify) out' before told → ⊥
+  pub alone : (out before told out' before' told' : List ℕ)
+      → Refuses (Some files) (test path gates simplify) out before told
+      → Disagrees (Some files) (test path gates simplify) out' before' told' → ⊥
 
 abbrev pub TestExactLaw : Type 0
 TestExactLaw = (files : Files) (path : List ℕ) (gates simplify : Bool) → TestIsExact files path gates simplify

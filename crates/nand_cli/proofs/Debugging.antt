@@ -32,7 +32,7 @@ use Rattle.jack_debug.proofs.Views.{walk_law}
 use Rattle.tower.specs.Image.{IsImageOf}
 use Rattle.vm_debug.specs.Program.{ArePlacesOf}
 use Rattle.command_line.specs.Line.{Source, debug, of_classes}
-use Rattle.outer_world.specs.State.{shelf_state}
+use Rattle.outer_world.specs.State.{SinkState, shelf_state}
 use Rattle.nand_cli.specs.Answer.{Lacks}
 use Rattle.nand_cli.specs.Commands.Build.{BuildRefuses}
 use Rattle.nand_cli.specs.Commands.Debug.{DebugPrints, DebugRefuses, HasStatement, IsAt, IsDebugReport, ShowsNone, ShowsStop, TellsStop, no_point, none_text, stop_text, stopped, unstopped, without_image, without_point, without_script}
@@ -163,21 +163,21 @@ module _ (files : Option Files) (there : List ℕ → Bool) (steady : Type 0) (s
       (λ told k. without_script p.places (here_of p is) has k) (λ k s. lacks_script files p.places (here_of p is) has (k s)) h
 
   -- a line that is not prepared does nothing
-  pub undone : (out err : Option (List ℕ)) (e : LoadError) → Unprepared e → Does (shelf_state files there steady) (of_classes source (debug sub number cycles keys)) out out err err (Err (failure.Unloaded e))
+  pub undone : (out err : SinkState) (e : LoadError) → Unprepared e → Does (shelf_state files there steady) (of_classes source (debug sub number cycles keys)) out out err err (Err (failure.Unloaded e))
   undone out err e h =
       nothing_put (IsPreparedDebug files source sub number keys) (DebugRefuses files source sub number keys) Missed files there steady (of_classes source (debug sub number cycles keys)) out err e
       (λ told k. (refl, k, refl)) (λ k. k) h tt
 
   -- what a prepared line does
-  pub answered : (p : PreparedDebug) (out out' err : Option (List ℕ)) (r : Result (Unit {0}) Failure) → IsPreparedDebug files source sub number keys p → Reports (TellsDriven p sub number cycles) out out' r
+  pub answered : (p : PreparedDebug) (out out' err : SinkState) (r : Result (Unit {0}) Failure) → IsPreparedDebug files source sub number keys p → Reports (TellsDriven p sub number cycles) out out' r
       → Does (shelf_state files there steady) (of_classes source (debug sub number cycles keys)) out out' err err r
-  answered p out out' err (Ok u) is (text, told, got) = (text, [], (prints p text is told, refl), got, Got-nothing err)
-  answered p out out' err (Err failure.Out) is (text, told, part) = (take part.0 text, [], (text, part.0, (prints p text is told, refl), refl, refl), part.1, Got-nothing err)
+  answered p out out' err (Ok u) is (text, told, got) = (text, [], (prints p text is told, refl), got, Got-nothing err.written)
+  answered p out out' err (Err failure.Out) is (text, told, part) = (take part.0 text, [], (text, part.0, (prints p text is told, refl), refl, refl), part.1, Got-nothing err.written)
   answered p out out' err (Err (failure.Differs d)) is h = absurd h
   answered p out out' err (Err failure.Echo) is h = absurd h
   answered p out out' err (Err (failure.Unloaded (errors.Refused why))) is (same, e) = absurd (let bad : ⊥ = cc in bad)
   answered p out out' err (Err (failure.Unloaded errors.Failed)) is (same, e) = absurd (let bad : ⊥ = cc in bad)
-  answered p out out' err (Err (failure.Unloaded errors.Memory)) is (same, e) = ([], [], (refl, refl), subst (λ now. Got out now []) (sym same) (Got-nothing out), Got-nothing err)
+  answered p out out' err (Err (failure.Unloaded errors.Memory)) is (same, e) = ([], [], (refl, refl), subst (λ now. Got out.written now []) (sym same) (Got-nothing out.written), Got-nothing err.written)
 
   -- all is there
   pub prepared : (p : PlacedProgram) (lines : List Line) (g : GateMachine) → FolderIsPlaced files source p → HasStatement p.places sub number → HasKeys files keys lines → ((c : ℕ) → IsKey (code_at lines c))
@@ -195,7 +195,7 @@ module _ (files : Option Files) (there : List ℕ → Bool) (steady : Type 0) (s
 
 -- ---- what is put
 
-module _ (places : Places) (sub : List ℕ) (number : ℕ) (g : GateMachine) (out out' : Option (List ℕ)) (p : Put) where
+module _ (places : Places) (sub : List ℕ) (number : ℕ) (g : GateMachine) (out out' : SinkState) (p : Put) where
   pub shown_none : (found : Bool) → found ≡ false → Puts out out' (none_text g.moves g.tally.steps) p → Reports (TellsMachine places sub number found g) out out' (finish_result p)
   shown_none found e puts =
       subst (λ b. Reports (TellsMachine places sub number b g) out out' (finish_result p)) (sym e) (reports_by (TellsMachine places sub number false g) (none_text g.moves g.tally.steps) out out' p refl puts)
@@ -206,7 +206,7 @@ module _ (places : Places) (sub : List ℕ) (number : ℕ) (g : GateMachine) (ou
       subst (λ b. Reports (TellsMachine places sub number b g) out out' (finish_result p)) (sym e)
       (reports_by (TellsMachine places sub number true g) (stop_text sub number g.moves g.tally.steps ++ view_text view) out out' p (view, walk, refl) puts)
 
-pub driven : (p : PreparedDebug) (sub : List ℕ) (number cycles : ℕ) (found : Bool) (g : GateMachine) (out out' : Option (List ℕ)) (r : Result (Unit {0}) Failure)
+pub driven : (p : PreparedDebug) (sub : List ℕ) (number cycles : ℕ) (found : Bool) (g : GateMachine) (out out' : SinkState) (r : Result (Unit {0}) Failure)
     → HasComeTo p.places sub number (image_in p.computer) (code_at p.keys) cycles found g → Reports (TellsMachine p.places sub number found g) out out' r → Reports (TellsDriven p sub number cycles) out out' r
 driven p sub number cycles found g out out' r come told =
     reported_as (TellsMachine p.places sub number found g) (TellsDriven p sub number cycles) out out' r (λ text tells. record { found = found; g = g; come = come; tells = tells }) told

@@ -10,7 +10,7 @@ use Rattle.command_line.specs.Line.{IsNoTest, Line, chip, of_classes, of_file, s
 use Rattle.source_files.specs.Loads.{CountsLoad, Loads, line_of}
 use Rattle.source_files.specs.declared.error.LoadError.{LoadError}
 use Rattle.source_files.specs.declared.error.LoadError.TheVariants as errors
-use Rattle.outer_world.specs.State.{shelf_state}
+use Rattle.outer_world.specs.State.{SinkState, shelf_state}
 use Rattle.nand_cli.specs.Answer.{CutsOut, Lacks, Misses, Prints, Refuses, Starves}
 use Rattle.nand_cli.specs.Inner.Parts.{Counts, Does, finish_result}
 use Rattle.nand_cli.specs.declared.failure.Failure.TheVariants as failure
@@ -42,20 +42,20 @@ cuts_other files (test path gates simplify) text n other prints = absurd other
 cuts_other files (soak seed count) text n other prints = (text, n, prints, refl, refl)
 
 -- nothing is put of what is not loaded
-pub nothing_put : {A : Type 0} (good : A → Type 0) (refused : List ℕ → Type 0) (missed : Type 0) (files : Option Files) (there : List ℕ → Bool) (unfailing : Type 0) (line : Line) (out err : Option (List ℕ)) (e : LoadError)
+pub nothing_put : {A : Type 0} (good : A → Type 0) (refused : List ℕ → Type 0) (missed : Type 0) (files : Option Files) (there : List ℕ → Bool) (unfailing : Type 0) (line : Line) (out err : SinkState) (e : LoadError)
     → ((text : List ℕ) → refused text → Refuses files line [] [] text) → (missed → unfailing → IfSome files (λ told. Lacks there told line)) → Loads good refused missed (Err e) → IsNoTest line
     → Does (shelf_state files there unfailing) line out out err err (Err (failure.Unloaded e))
-nothing_put good refused missed files there unfailing line out err (errors.Refused r) more may h other = ([], [], more (line_of r) h, Got-nothing out, Got-nothing err)
-nothing_put good refused missed files there unfailing line out err errors.Failed more may h other = ([], [], misses_other files there unfailing line other (may h), Got-nothing out, Got-nothing err)
-nothing_put good refused missed files there unfailing line out err errors.Memory more may h other = ([], [], starves_other files line other, Got-nothing out, Got-nothing err)
+nothing_put good refused missed files there unfailing line out err (errors.Refused r) more may h other = ([], [], more (line_of r) h, Got-nothing out.written, Got-nothing err.written)
+nothing_put good refused missed files there unfailing line out err errors.Failed more may h other = ([], [], misses_other files there unfailing line other (may h), Got-nothing out.written, Got-nothing err.written)
+nothing_put good refused missed files there unfailing line out err errors.Memory more may h other = ([], [], starves_other files line other, Got-nothing out.written, Got-nothing err.written)
 
-pub unread_counts : (A : Type 0) (e : LoadError) (shelf shelf' out err : ℕ) → CountsLoad {A = A} shelf shelf' (Err e) → Counts shelf shelf' out out err err (Err (failure.Unloaded e))
+pub unread_counts : (A : Type 0) (e : LoadError) (shelf shelf' : ℕ) (out err : SinkState) → CountsLoad {A = A} shelf shelf' (Err e) → Counts shelf shelf' out out err err (Err (failure.Unloaded e))
 unread_counts A (errors.Refused r) shelf shelf' out err h = (h, refl, refl)
 unread_counts A errors.Failed shelf shelf' out err h = (h, refl, refl)
 unread_counts A errors.Memory shelf shelf' out err h = (h, refl, refl)
 
 -- what is not made, and was not read
-pub unmade_counts : {A : Type 0} (good : A → Type 0) (refused : List ℕ → Type 0) (e : LoadError) (shelf shelf' out err : ℕ) → Loads good refused ⊥ (Err e) → shelf' ≡ shelf → Counts shelf shelf' out out err err (Err (failure.Unloaded e))
+pub unmade_counts : {A : Type 0} (good : A → Type 0) (refused : List ℕ → Type 0) (e : LoadError) (shelf shelf' : ℕ) (out err : SinkState) → Loads good refused ⊥ (Err e) → shelf' ≡ shelf → Counts shelf shelf' out out err err (Err (failure.Unloaded e))
 unmade_counts good refused (errors.Refused r) shelf shelf' out err h e = (e, refl, refl)
 unmade_counts good refused errors.Failed shelf shelf' out err h e = absurd h
 unmade_counts good refused errors.Memory shelf shelf' out err h e = (e, refl, refl)
@@ -67,11 +67,11 @@ missing (Some told) there folder line so h = so told h
 
 -- ---- what is put
 
-pub done_by : (files : Option Files) (there : List ℕ → Bool) (unfailing : Type 0) (line : Line) (text : List ℕ) (out out' err : Option (List ℕ)) (p : Put) → Prints files line text [] → Puts out out' text p
+pub done_by : (files : Option Files) (there : List ℕ → Bool) (unfailing : Type 0) (line : Line) (text : List ℕ) (out out' err : SinkState) (p : Put) → Prints files line text [] → Puts out out' text p
     → IsNoTest line → Does (shelf_state files there unfailing) line out out' err err (finish_result p)
-done_by files there unfailing line text out out' err put.Done prints puts other = (text, [], prints, puts, Got-nothing err)
-done_by files there unfailing line text out out' err put.Failed prints puts other = (take puts.0 text, [], cuts_other files line text puts.0 other prints, puts.1, Got-nothing err)
+done_by files there unfailing line text out out' err put.Done prints puts other = (text, [], prints, puts.bytes, Got-nothing err.written)
+done_by files there unfailing line text out out' err put.Failed prints puts other = (take puts.bytes.0 text, [], cuts_other files line text puts.bytes.0 other prints, puts.bytes.1, Got-nothing err.written)
 
-pub done_counts : (shelf shelf' out out' err : ℕ) (p : Put) → shelf' ≡ shelf → CountsPut out out' p → Counts shelf shelf' out out' err err (finish_result p)
+pub done_counts : (shelf shelf' : ℕ) (out out' err : SinkState) (p : Put) → shelf' ≡ shelf → CountsPut out.faults out'.faults p → Counts shelf shelf' out out' err err (finish_result p)
 done_counts shelf shelf' out out' err put.Done same counts = (same, counts, refl)
 done_counts shelf shelf' out out' err put.Failed same counts = (inl same, counts.0, refl)

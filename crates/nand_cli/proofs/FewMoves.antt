@@ -1,5 +1,5 @@
 -- A report has as many moves at most as are asked for.
-use Rattle.std.proofs.Common.{◌≡◌, ◌≤◌, ◌<◌, ◌++◌, ◌∷◌, ℕ, suc, List, Option, Result, codes, decimal, ◌∙◌, append_assoc, arith}
+use Rattle.std.proofs.Common.{◌≡◌, ◌≤◌, ◌<◌, ◌++◌, ◌∷◌, ℕ, suc, List, Result, codes, decimal, ◌∙◌, append_assoc, arith}
 use Rattle.jack_meaning.specs.Text.{Subroutine}
 use Rattle.jack_meaning.specs.Meaning.{State}
 use Rattle.jack_meaning.specs.Level.{meaning_of, point_in}
@@ -20,6 +20,7 @@ use Rattle.command_line.specs.declared.request.RunLevel.{RunLevel}
 use Rattle.command_line.specs.declared.request.RunLevel.TheVariants as levels
 use Rattle.command_line.specs.declared.request.Shown.{Shown}
 use Rattle.command_line.specs.declared.request.Shown.TheVariants.{Words}
+use Rattle.outer_world.specs.State.{SinkState}
 use Rattle.nand_cli.specs.Commands.Gates.{IsGatesReport, gates_trace}
 use Rattle.nand_cli.specs.Commands.Run.{EndsAt, IsReport, RunIsShort, TellsAtMost, name_of, trace_in}
 use Rattle.nand_cli.specs.Inner.Reports.{Reports}
@@ -82,7 +83,7 @@ few (levels.Simplified show) core code n text h = gates_few (Words show) core co
 pub run_is_short : RunIsShort
 run_is_short files source level cycles keys out (core, lines, means, built, has, report) = few level core (code_at lines) cycles out report
 
-pub with_few : (level : RunLevel) (core : Core) (code : ℕ → ℕ) (n : ℕ) (out out' : Option (List ℕ)) (r : Result (Unit {0}) Failure)
+pub with_few : (level : RunLevel) (core : Core) (code : ℕ → ℕ) (n : ℕ) (out out' : SinkState) (r : Result (Unit {0}) Failure)
     → Reports (IsReport level core code n) out out' r → Reports (λ text. IsReport level core code n text × TellsAtMost n text) out out' r
 with_few level core code n out out' r h =
     reported_as (IsReport level core code n) (λ text. IsReport level core code n text × TellsAtMost n text) out out' r (λ text is. (is, few level core code n text is)) h

@@ -1,8 +1,9 @@
 -- The computer made of gates after its cycles, and its report.
-use Rattle.std.proofs.Common.{◌≡◌, ◌<◌, ◌++◌, ℕ, suc, false, true, List, [], Option, Result, Ok, Err, IfOk, refl, ap, ◌∙◌, sym, subst, append-nil}
+use Rattle.std.proofs.Common.{◌≡◌, ◌<◌, ◌++◌, ℕ, suc, false, true, List, [], Result, Ok, Err, IfOk, refl, ap, ◌∙◌, sym, subst, append-nil}
 use Rattle.std.specs.Prelude.{IsSome}
 use Rattle.std.proofs.lemmas.List.Elements.{recursion_from_All}
 use Rattle.word16.specs.Memory.{keyboard}
+use Rattle.outer_world.specs.State.{SinkState}
 use Rattle.outer_world.specs.declared.sink.Put.{Put}
 use Rattle.machine_io.specs.Driven.{EndsBy, IsDriven}
 use Rattle.machine_io.specs.History.{Turn, moves_from}
@@ -203,7 +204,7 @@ module _ (core : Core) (code : ℕ → ℕ) (n : ℕ) (resolved : IsResolvedCore
       gates_reported core code n Nets (gates_head new (names_of core) end ++ rest) new resolved words own_image turns.followed (nets_told new code n turns.followed core end other rest turns.bound behaves shown)
 
   -- the five lines are put, and those of the parts in the cycle that comes next
-  pub nets_put : (end : End) (key : ℕ) (out out' : Option (List ℕ)) (p : Put) → IsDriven code (HasFollowed old) old.moves n end (HasFollowed new) new.moves → key ≡ code n
+  pub nets_put : (end : End) (key : ℕ) (out out' : SinkState) (p : Put) → IsDriven code (HasFollowed old) old.moves n end (HasFollowed new) new.moves → key ≡ code n
       → PutsNets new key (gates_head new (names_of core) end) out out' p → Reports (IsGatesReport core code n Nets) out out' (finish_result p)
   unfolding PutsNets
   nets_put end key out out' p driven held puts =

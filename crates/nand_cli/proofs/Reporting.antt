@@ -27,7 +27,7 @@ use Rattle.command_line.specs.Line.{Source, of_classes, run}
 use Rattle.command_line.specs.declared.request.RunLevel.{RunLevel}
 use Rattle.command_line.specs.declared.request.RunLevel.TheVariants as levels
 use Rattle.tower.specs.Image.{IsImageOf}
-use Rattle.outer_world.specs.State.{shelf_state}
+use Rattle.outer_world.specs.State.{SinkState, shelf_state}
 use Rattle.nand_cli.specs.Answer.{Lacks}
 use Rattle.nand_cli.specs.JackFolder.{BuildIsRefused, FolderIsRefused, FolderMeans, IsBuilt}
 use Rattle.nand_cli.specs.Inner.Parts.{Counts, Does, finish_result}
@@ -50,11 +50,11 @@ reported n show core new code end same (s, at, ends_so, shows) =
 
 -- ---- the report is put
 
-pub reports_by : (is_report : List ℕ → Type 0) (text : List ℕ) (out out' : Option (List ℕ)) (p : Put) → is_report text → Puts out out' text p → Reports is_report out out' (finish_result p)
-reports_by is_report text out out' put.Done is puts = (text, is, puts)
-reports_by is_report text out out' put.Failed is puts = (text, is, puts)
+pub reports_by : (is_report : List ℕ → Type 0) (text : List ℕ) (out out' : SinkState) (p : Put) → is_report text → Puts out out' text p → Reports is_report out out' (finish_result p)
+reports_by is_report text out out' put.Done is puts = (text, is, puts.bytes)
+reports_by is_report text out out' put.Failed is puts = (text, is, puts.bytes)
 
-pub counts_by : (out out' : ℕ) (p : Put) → CountsPut out out' p → CountsReport out out' (finish_result p)
+pub counts_by : (out out' : SinkState) (p : Put) → CountsPut out.faults out'.faults p → CountsReport out out' (finish_result p)
 counts_by out out' put.Done counts = counts
 counts_by out out' put.Failed counts = counts.0
 
@@ -63,7 +63,7 @@ is_put put.Done = tt
 is_put put.Failed = tt
 
 -- a report is one of another kind too
-pub reported_as : (P Q : List ℕ → Type 0) (out out' : Option (List ℕ)) (r : Result (Unit {0}) Failure) → ((text : List ℕ) → P text → Q text) → Reports P out out' r → Reports Q out out' r
+pub reported_as : (P Q : List ℕ → Type 0) (out out' : SinkState) (r : Result (Unit {0}) Failure) → ((text : List ℕ) → P text → Q text) → Reports P out out' r → Reports Q out out' r
 reported_as P Q out out' (Ok u) more (text, is, got) = (text, more text is, got)
 reported_as P Q out out' (Err failure.Out) more (text, is, part) = (text, more text is, part)
 reported_as P Q out out' (Err (failure.Unloaded e)) more h = h
@@ -74,19 +74,19 @@ reported_as P Q out out' (Err failure.Echo) more h = absurd h
 
 module _ (level : RunLevel) (files : Option Files) (there : List ℕ → Bool) (steady : Type 0) (source : Source) (n : ℕ) (keys : Option (List ℕ)) where
   -- with a report
-  pub answered : (core : Core) (lines : List Line) (out out' err : Option (List ℕ)) (r : Result (Unit {0}) Failure) → FolderMeans files source core → IsBuilt core → HasKeys files keys lines
+  pub answered : (core : Core) (lines : List Line) (out out' err : SinkState) (r : Result (Unit {0}) Failure) → FolderMeans files source core → IsBuilt core → HasKeys files keys lines
       → Reports (IsReport level core (code_at lines) n) out out' r → Does (shelf_state files there steady) (of_classes source (run level n keys)) out out' err err r
-  answered core lines out out' err (Ok u) means built has (text, is, got) = (text, [], ((core, lines, means, built, has, is), refl), got, Got-nothing err)
-  answered core lines out out' err (Err failure.Out) means built has (text, is, part) = (take part.0 text, [], (text, part.0, ((core, lines, means, built, has, is), refl), refl, refl), part.1, Got-nothing err)
+  answered core lines out out' err (Ok u) means built has (text, is, got) = (text, [], ((core, lines, means, built, has, is), refl), got, Got-nothing err.written)
+  answered core lines out out' err (Err failure.Out) means built has (text, is, part) = (take part.0 text, [], (text, part.0, ((core, lines, means, built, has, is), refl), refl, refl), part.1, Got-nothing err.written)
   answered core lines out out' err (Err (failure.Differs d)) means built has h = absurd h
   answered core lines out out' err (Err failure.Echo) means built has h = absurd h
   answered core lines out out' err (Err (failure.Unloaded (errors.Refused why))) means built has (same, e) = absurd (let bad : ⊥ = cc in bad)
   answered core lines out out' err (Err (failure.Unloaded errors.Failed)) means built has (same, e) = absurd (let bad : ⊥ = cc in bad)
   answered core lines out out' err (Err (failure.Unloaded errors.Memory)) means built has (same, e) =
-      ([], [], (refl, refl), subst (λ now. Got out now []) (sym same) (Got-nothing out), Got-nothing err)
+      ([], [], (refl, refl), subst (λ now. Got out.written now []) (sym same) (Got-nothing out.written), Got-nothing err.written)
 
   -- of what is prepared for it
-  pub shown : (p : PreparedRun) (out out' err : Option (List ℕ)) (r : Result (Unit {0}) Failure) → IsPrepared files source level n keys p
+  pub shown : (p : PreparedRun) (out out' err : SinkState) (r : Result (Unit {0}) Failure) → IsPrepared files source level n keys p
       → Reports (λ text. IsReport (level_of p.machine) p.core (code_at p.keys) p.cycles text × TellsAtMost p.cycles text) out out' r → Does (shelf_state files there steady) (of_classes source (run level n keys)) out out' err err r
   shown p out out' err r is h =
       let one = IsReport (level_of p.machine) p.core (code_at p.keys) p.cycles in
@@ -123,7 +123,7 @@ module _ (level : RunLevel) (files : Option Files) (there : List ℕ → Bool) (
       (λ told k. without_script core means built k) (λ k s. without_script_file files core means built (k s)) h
 
   -- a line that is not prepared does nothing
-  pub undone : (out err : Option (List ℕ)) (e : LoadError) → Unprepared e → Does (shelf_state files there steady) (of_classes source (run level n keys)) out out err err (Err (failure.Unloaded e))
+  pub undone : (out err : SinkState) (e : LoadError) → Unprepared e → Does (shelf_state files there steady) (of_classes source (run level n keys)) out out err err (Err (failure.Unloaded e))
   undone out err e h =
       nothing_put (IsPrepared files source level n keys) (RunRefuses files source keys) Missed files there steady (of_classes source (run level n keys)) out err e
       (λ told k. (refl, k, refl)) (λ k. k) h tt
@@ -142,12 +142,12 @@ counts_none B good refused errors.Memory shelf shelf' h e = e
 
 -- ---- the counts
 
-pub report_counts : (is_report : List ℕ → Type 0) (before now : Option (List ℕ)) (shelf shelf' out out' err : ℕ) (r : Result (Unit {0}) Failure) → shelf' ≡ shelf
-    → Reports is_report before now r → CountsReport out out' r → Counts shelf shelf' out out' err err r
-report_counts is_report before now shelf shelf' out out' err (Ok u) e h count = (e, count, refl)
-report_counts is_report before now shelf shelf' out out' err (Err failure.Out) e h count = (inl e, count, refl)
-report_counts is_report before now shelf shelf' out out' err (Err (failure.Differs d)) e h count = absurd h
-report_counts is_report before now shelf shelf' out out' err (Err failure.Echo) e h count = absurd h
-report_counts is_report before now shelf shelf' out out' err (Err (failure.Unloaded (errors.Refused why))) e h count = (e, count, refl)
-report_counts is_report before now shelf shelf' out out' err (Err (failure.Unloaded errors.Failed)) e (same, bad) count = absurd (let no : ⊥ = cc in no)
-report_counts is_report before now shelf shelf' out out' err (Err (failure.Unloaded errors.Memory)) e h count = (e, count, refl)
+pub report_counts : (is_report : List ℕ → Type 0) (shelf shelf' : ℕ) (out out' err : SinkState) (r : Result (Unit {0}) Failure) → shelf' ≡ shelf
+    → Reports is_report out out' r → CountsReport out out' r → Counts shelf shelf' out out' err err r
+report_counts is_report shelf shelf' out out' err (Ok u) e h count = (e, count, refl)
+report_counts is_report shelf shelf' out out' err (Err failure.Out) e h count = (inl e, count, refl)
+report_counts is_report shelf shelf' out out' err (Err (failure.Differs d)) e h count = absurd h
+report_counts is_report shelf shelf' out out' err (Err failure.Echo) e h count = absurd h
+report_counts is_report shelf shelf' out out' err (Err (failure.Unloaded (errors.Refused why))) e h count = (e, count, refl)
+report_counts is_report shelf shelf' out out' err (Err (failure.Unloaded errors.Failed)) e (same, bad) count = absurd (let no : ⊥ = cc in no)
+report_counts is_report shelf shelf' out out' err (Err (failure.Unloaded errors.Memory)) e h count = (e, count, refl)

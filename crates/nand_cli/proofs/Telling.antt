@@ -1,5 +1,5 @@
 -- What a call promises after a failure, where words are no line, and where all is done.
-use Rattle.std.proofs.Common.{◌≡◌, ◌++◌, ℕ, List, [], Option, Ok, Err, refl, sym, ◌∙◌, subst, inl, inr, take}
+use Rattle.std.proofs.Common.{◌≡◌, ◌++◌, ℕ, List, [], Ok, Err, refl, sym, ◌∙◌, subst, inl, inr, take}
 use Rattle.outer_world.specs.Texts.{read_fault_line, usage_line, want_of_memory_line}
 use Rattle.outer_world.specs.Faults.{Rose}
 use Rattle.outer_world.specs.Written.{Got}
@@ -11,7 +11,7 @@ use Rattle.command_line.specs.declared.reader.LineError.TheVariants as no_line
 use Rattle.tst_runner.specs.Verdicts.{difference_line}
 use Rattle.source_files.specs.Loads.{line_of}
 use Rattle.source_files.specs.declared.error.LoadError.TheVariants as errors
-use Rattle.outer_world.specs.State.{shelf_state}
+use Rattle.outer_world.specs.State.{SinkState, shelf_state, sink_state}
 use Rattle.nand_cli.specs.Answer.{Answers, Causes, Promises}
 use Rattle.nand_cli.specs.Outside.{Outside}
 use Rattle.nand_cli.specs.Inner.Parts.{Counts, Does, TellsFailure, TellsNoLine}
@@ -20,28 +20,35 @@ use Rattle.nand_cli.specs.declared.command.Status.TheVariants as status
 use Rattle.nand_cli.specs.declared.failure.Failure.{Failure}
 use Rattle.nand_cli.specs.declared.failure.Failure.TheVariants as failure
 
+-- what out and err are
+abbrev out_of : Outside → SinkState
+out_of outside = sink_state outside.out outside.out_faults
+
+abbrev err_of : Outside → SinkState
+err_of outside = sink_state outside.err outside.err_faults
+
 -- ---- words that are no line
 
 no_line_answers : (words : List (List ℕ)) (before after : Outside) (error : LineError) (s : Status) → (error ≡ no_line.Usage → IsNoLine words) → after.out ≡ before.out → after.out_faults ≡ before.out_faults
-    → TellsNoLine error before.err_faults after.err_faults before.err after.err s → Answers words before after s
+    → TellsNoLine error (err_of before) (err_of after) s → Answers words before after s
 no_line_answers words before after no_line.Usage s none out quiet (put.Done, said, e) =
-    rw e ([], usage_line, inl (none refl, refl, refl), rw out (Got-nothing before.out), said.1)
+    rw e ([], usage_line, inl (none refl, refl, refl), rw out (Got-nothing before.out), said.bytes)
 no_line_answers words before after no_line.Usage s none out quiet (put.Failed, said, e) =
-    rw e (inl (status.Usage, usage_line, (none refl, refl, refl), rw out (Got-nothing before.out), quiet, said.1, said.0))
+    rw e (inl (status.Usage, usage_line, (none refl, refl, refl), rw out (Got-nothing before.out), quiet, said.bytes, said.counts.0))
 no_line_answers words before after no_line.Memory s none out quiet (put.Done, said, e) =
-    rw e ([], want_of_memory_line, inl (refl, refl), rw out (Got-nothing before.out), said.1)
+    rw e ([], want_of_memory_line, inl (refl, refl), rw out (Got-nothing before.out), said.bytes)
 no_line_answers words before after no_line.Memory s none out quiet (put.Failed, said, e) =
-    rw e (inl (status.NoMemory, want_of_memory_line, (refl, refl), rw out (Got-nothing before.out), quiet, said.1, said.0))
+    rw e (inl (status.NoMemory, want_of_memory_line, (refl, refl), rw out (Got-nothing before.out), quiet, said.bytes, said.counts.0))
 
 no_line_causes : (before after : Outside) (error : LineError) (s : Status) → after.shelf_faults ≡ before.shelf_faults → after.out_faults ≡ before.out_faults
-    → TellsNoLine error before.err_faults after.err_faults before.err after.err s → Causes before after s
-no_line_causes before after no_line.Usage s shelf out (put.Done, said, e) = rw e (shelf, out, said.0)
-no_line_causes before after no_line.Usage s shelf out (put.Failed, said, e) = rw e (inr said.0, inl shelf)
-no_line_causes before after no_line.Memory s shelf out (put.Done, said, e) = rw e (shelf, out, said.0)
-no_line_causes before after no_line.Memory s shelf out (put.Failed, said, e) = rw e (inr said.0, inl shelf)
+    → TellsNoLine error (err_of before) (err_of after) s → Causes before after s
+no_line_causes before after no_line.Usage s shelf out (put.Done, said, e) = rw e (shelf, out, said.counts)
+no_line_causes before after no_line.Usage s shelf out (put.Failed, said, e) = rw e (inr said.counts.0, inl shelf)
+no_line_causes before after no_line.Memory s shelf out (put.Done, said, e) = rw e (shelf, out, said.counts)
+no_line_causes before after no_line.Memory s shelf out (put.Failed, said, e) = rw e (inr said.counts.0, inl shelf)
 
 pub not_read : (words : List (List ℕ)) (before after : Outside) (error : LineError) (s : Status) → (error ≡ no_line.Usage → IsNoLine words) → after.files ≡ before.files → after.there ≡ before.there → after.out ≡ before.out
-    → after.shelf_faults ≡ before.shelf_faults → after.out_faults ≡ before.out_faults → TellsNoLine error before.err_faults after.err_faults before.err after.err s → Promises words before after s
+    → after.shelf_faults ≡ before.shelf_faults → after.out_faults ≡ before.out_faults → TellsNoLine error (err_of before) (err_of after) s → Promises words before after s
 not_read words before after error s none kept stays out shelf quiet tells = record {
   answers = no_line_answers words before after error s none out quiet tells;
   causes = no_line_causes before after error s shelf quiet tells;
@@ -52,12 +59,12 @@ not_read words before after error s none kept stays out shelf quiet tells = reco
 -- ---- a line that is not done; the bytes and the count of faults of err are known before its line
 -- too
 
-module _ (words : List (List ℕ)) (before after : Outside) (line : Line) (is_line : IsLine words line) (between : Option (List ℕ)) (count : ℕ) where
-  failure_answers : (why : Failure) (s : Status) → Does (shelf_state before.files before.there before.unfailing) line before.out after.out before.err between (Err why)
-      → Counts before.shelf_faults after.shelf_faults before.out_faults after.out_faults before.err_faults count (Err why)
-      → TellsFailure why count after.err_faults between after.err s → Answers words before after s
+module _ (words : List (List ℕ)) (before after : Outside) (line : Line) (is_line : IsLine words line) (mid : SinkState) where
+  failure_answers : (why : Failure) (s : Status) → Does (shelf_state before.files before.there before.unfailing) line (out_of before) (out_of after) (err_of before) mid (Err why)
+      → Counts before.shelf_faults after.shelf_faults (out_of before) (out_of after) (err_of before) mid (Err why)
+      → TellsFailure why mid (err_of after) s → Answers words before after s
   failure_answers (failure.Unloaded (errors.Refused r)) s (o, e, ends, got, there) (a, b, c) (put.Done, said, so) =
-      rw so (o, e ++ (line_of r), inr (line, is_line, (e, (line_of r), ends, refl)), got, Got-then before.err between after.err e (line_of r) there said.1)
+      rw so (o, e ++ (line_of r), inr (line, is_line, (e, (line_of r), ends, refl)), got, Got-then before.err mid.written after.err e (line_of r) there said.bytes)
   failure_answers (failure.Unloaded (errors.Refused r)) s (o, e, ends, got, there) (a, b, c) (put.Failed, said, so) =
       rw so (inr (
         line,
@@ -67,16 +74,16 @@ module _ (words : List (List ℕ)) (before after : Outside) (line : Line) (is_li
           o,
           e,
           (line_of r),
-          said.1.0,
+          said.bytes.0,
           ends,
           got,
           b,
-          Got-then before.err between after.err e (take said.1.0 (line_of r)) there said.1.1,
-          subst (λ n. Rose n after.err_faults) c said.0,
+          Got-then before.err mid.written after.err e (take said.bytes.0 (line_of r)) there said.bytes.1,
+          subst (λ n. Rose n after.err_faults) c said.counts.0,
         )),
       ))
   failure_answers (failure.Unloaded errors.Failed) s (o, e, ends, got, there) (a, b, c) (put.Done, said, so) =
-      rw so (o, e ++ read_fault_line, inr (line, is_line, (e, read_fault_line, (ends, refl), refl)), got, Got-then before.err between after.err e read_fault_line there said.1)
+      rw so (o, e ++ read_fault_line, inr (line, is_line, (e, read_fault_line, (ends, refl), refl)), got, Got-then before.err mid.written after.err e read_fault_line there said.bytes)
   failure_answers (failure.Unloaded errors.Failed) s (o, e, ends, got, there) (a, b, c) (put.Failed, said, so) =
       rw so (inr (
         line,
@@ -86,16 +93,16 @@ module _ (words : List (List ℕ)) (before after : Outside) (line : Line) (is_li
           o,
           e,
           read_fault_line,
-          said.1.0,
+          said.bytes.0,
           (ends, refl),
           got,
           b,
-          Got-then before.err between after.err e (take said.1.0 read_fault_line) there said.1.1,
-          subst (λ n. Rose n after.err_faults) c said.0,
+          Got-then before.err mid.written after.err e (take said.bytes.0 read_fault_line) there said.bytes.1,
+          subst (λ n. Rose n after.err_faults) c said.counts.0,
         )),
       ))
   failure_answers (failure.Unloaded errors.Memory) s (o, e, ends, got, there) (a, b, c) (put.Done, said, so) =
-      rw so (o, e ++ want_of_memory_line, inr (line, is_line, (e, want_of_memory_line, (ends, refl), refl)), got, Got-then before.err between after.err e want_of_memory_line there said.1)
+      rw so (o, e ++ want_of_memory_line, inr (line, is_line, (e, want_of_memory_line, (ends, refl), refl)), got, Got-then before.err mid.written after.err e want_of_memory_line there said.bytes)
   failure_answers (failure.Unloaded errors.Memory) s (o, e, ends, got, there) (a, b, c) (put.Failed, said, so) =
       rw so (inr (
         line,
@@ -105,16 +112,16 @@ module _ (words : List (List ℕ)) (before after : Outside) (line : Line) (is_li
           o,
           e,
           want_of_memory_line,
-          said.1.0,
+          said.bytes.0,
           (ends, refl),
           got,
           b,
-          Got-then before.err between after.err e (take said.1.0 want_of_memory_line) there said.1.1,
-          subst (λ n. Rose n after.err_faults) c said.0,
+          Got-then before.err mid.written after.err e (take said.bytes.0 want_of_memory_line) there said.bytes.1,
+          subst (λ n. Rose n after.err_faults) c said.counts.0,
         )),
       ))
   failure_answers (failure.Differs d) s (o, e, ends, got, there) (a, b, c) (put.Done, said, so) =
-      rw so (o, e ++ (difference_line d), inr (line, is_line, (e, (difference_line d), ends, refl)), got, Got-then before.err between after.err e (difference_line d) there said.1)
+      rw so (o, e ++ (difference_line d), inr (line, is_line, (e, (difference_line d), ends, refl)), got, Got-then before.err mid.written after.err e (difference_line d) there said.bytes)
   failure_answers (failure.Differs d) s (o, e, ends, got, there) (a, b, c) (put.Failed, said, so) =
       rw so (inr (
         line,
@@ -124,12 +131,12 @@ module _ (words : List (List ℕ)) (before after : Outside) (line : Line) (is_li
           o,
           e,
           (difference_line d),
-          said.1.0,
+          said.bytes.0,
           ends,
           got,
           b,
-          Got-then before.err between after.err e (take said.1.0 (difference_line d)) there said.1.1,
-          subst (λ n. Rose n after.err_faults) c said.0,
+          Got-then before.err mid.written after.err e (take said.bytes.0 (difference_line d)) there said.bytes.1,
+          subst (λ n. Rose n after.err_faults) c said.counts.0,
         )),
       ))
   failure_answers failure.Out s (o, e, cut, got, there) (a, rose, c) (so, counts, same) =
@@ -137,22 +144,22 @@ module _ (words : List (List ℕ)) (before after : Outside) (line : Line) (is_li
   failure_answers failure.Echo s (o, e, cut, got, there) (a, b, rose) (so, counts, same) =
       rw so (inr (line, is_line, inr (inl (o, e, cut, got, subst (λ w. Got before.err w e) (sym same) there, b, subst (λ n. Rose before.err_faults n) (sym counts) rose))))
 
-  failure_causes : (why : Failure) (s : Status) → Counts before.shelf_faults after.shelf_faults before.out_faults after.out_faults before.err_faults count (Err why)
-      → TellsFailure why count after.err_faults between after.err s → Causes before after s
-  failure_causes (failure.Unloaded (errors.Refused r)) s (a, b, c) (put.Done, said, so) = rw so (a, b, said.0 ∙ c)
-  failure_causes (failure.Unloaded (errors.Refused r)) s (a, b, c) (put.Failed, said, so) = rw so (inr (subst (λ n. Rose n after.err_faults) c said.0), inl a)
-  failure_causes (failure.Unloaded errors.Failed) s (a, b, c) (put.Done, said, so) = rw so (a, b, said.0 ∙ c)
-  failure_causes (failure.Unloaded errors.Failed) s (a, b, c) (put.Failed, said, so) = rw so (inr (subst (λ n. Rose n after.err_faults) c said.0), inr a)
-  failure_causes (failure.Unloaded errors.Memory) s (a, b, c) (put.Done, said, so) = rw so (a, b, said.0 ∙ c)
-  failure_causes (failure.Unloaded errors.Memory) s (a, b, c) (put.Failed, said, so) = rw so (inr (subst (λ n. Rose n after.err_faults) c said.0), inl a)
-  failure_causes (failure.Differs d) s (a, b, c) (put.Done, said, so) = rw so (a, b, said.0 ∙ c)
-  failure_causes (failure.Differs d) s (a, b, c) (put.Failed, said, so) = rw so (inr (subst (λ n. Rose n after.err_faults) c said.0), inl a)
+  failure_causes : (why : Failure) (s : Status) → Counts before.shelf_faults after.shelf_faults (out_of before) (out_of after) (err_of before) mid (Err why)
+      → TellsFailure why mid (err_of after) s → Causes before after s
+  failure_causes (failure.Unloaded (errors.Refused r)) s (a, b, c) (put.Done, said, so) = rw so (a, b, said.counts ∙ c)
+  failure_causes (failure.Unloaded (errors.Refused r)) s (a, b, c) (put.Failed, said, so) = rw so (inr (subst (λ n. Rose n after.err_faults) c said.counts.0), inl a)
+  failure_causes (failure.Unloaded errors.Failed) s (a, b, c) (put.Done, said, so) = rw so (a, b, said.counts ∙ c)
+  failure_causes (failure.Unloaded errors.Failed) s (a, b, c) (put.Failed, said, so) = rw so (inr (subst (λ n. Rose n after.err_faults) c said.counts.0), inr a)
+  failure_causes (failure.Unloaded errors.Memory) s (a, b, c) (put.Done, said, so) = rw so (a, b, said.counts ∙ c)
+  failure_causes (failure.Unloaded errors.Memory) s (a, b, c) (put.Failed, said, so) = rw so (inr (subst (λ n. Rose n after.err_faults) c said.counts.0), inl a)
+  failure_causes (failure.Differs d) s (a, b, c) (put.Done, said, so) = rw so (a, b, said.counts ∙ c)
+  failure_causes (failure.Differs d) s (a, b, c) (put.Failed, said, so) = rw so (inr (subst (λ n. Rose n after.err_faults) c said.counts.0), inl a)
   failure_causes failure.Out s (a, rose, c) (so, counts, same) = rw so (inl rose, a)
   failure_causes failure.Echo s (a, b, rose) (so, counts, same) = rw so (inr (subst (λ n. Rose before.err_faults n) (sym counts) rose), inl a)
 
-  pub failed : (why : Failure) (s : Status) → after.files ≡ before.files → after.there ≡ before.there → Does (shelf_state before.files before.there before.unfailing) line before.out after.out before.err between (Err why)
-      → Counts before.shelf_faults after.shelf_faults before.out_faults after.out_faults before.err_faults count (Err why)
-      → TellsFailure why count after.err_faults between after.err s → Promises words before after s
+  pub failed : (why : Failure) (s : Status) → after.files ≡ before.files → after.there ≡ before.there → Does (shelf_state before.files before.there before.unfailing) line (out_of before) (out_of after) (err_of before) mid (Err why)
+      → Counts before.shelf_faults after.shelf_faults (out_of before) (out_of after) (err_of before) mid (Err why)
+      → TellsFailure why mid (err_of after) s → Promises words before after s
   failed why s kept stays does counts tells = record {
     answers = failure_answers why s does counts tells;
     causes = failure_causes why s counts tells;
@@ -163,8 +170,8 @@ module _ (words : List (List ℕ)) (before after : Outside) (line : Line) (is_li
 -- ---- a line that is done
 
 pub done : (words : List (List ℕ)) (before after : Outside) (line : Line) → IsLine words line → after.files ≡ before.files → after.there ≡ before.there
-    → Does (shelf_state before.files before.there before.unfailing) line before.out after.out before.err after.err (Ok tt)
-    → Counts before.shelf_faults after.shelf_faults before.out_faults after.out_faults before.err_faults after.err_faults (Ok tt) → Promises words before after status.Done
+    → Does (shelf_state before.files before.there before.unfailing) line (out_of before) (out_of after) (err_of before) (err_of after) (Ok tt)
+    → Counts before.shelf_faults after.shelf_faults (out_of before) (out_of after) (err_of before) (err_of after) (Ok tt) → Promises words before after status.Done
 done words before after line is_line kept stays (o, e, prints, out, err) counts = record {
   answers = (o, e, inr (line, is_line, prints), out, err);
   causes = counts;

@@ -1,7 +1,7 @@
 -- What is outside of a call, as far as it is known.
 use Rattle.std.specs.Prelude.{ℕ, Bool, List, Option}
 use Rattle.outer_world.specs.Files.{Files}
-use Rattle.outer_world.specs.State.{ShelfState}
+use Rattle.outer_world.specs.State.{ShelfState, SinkState}
 
 pub record Outside : Type 1 where
   -- the files of the shelf, where they are known
@@ -18,14 +18,14 @@ pub record Outside : Type 1 where
   pub out_faults : ℕ
   pub err_faults : ℕ
 
-abbrev pub outside : ShelfState → Option (List ℕ) → Option (List ℕ) → ℕ → ℕ → ℕ → Outside
-outside shelf out err shelf_faults out_faults err_faults = record {
+abbrev pub outside : ShelfState → ℕ → SinkState → SinkState → Outside
+outside shelf shelf_faults out err = record {
   files = shelf.files;
   there = shelf.there;
   unfailing = shelf.unfailing;
-  out = out;
-  err = err;
+  out = out.written;
+  err = err.written;
   shelf_faults = shelf_faults;
-  out_faults = out_faults;
-  err_faults = err_faults;
+  out_faults = out.faults;
+  err_faults = err.faults;
 }

@@ -1,10 +1,11 @@
 //! Why a line is not done, and its messages on err.
 ghost use Rattle.std.specs.Prelude.{◌≡◌};
+ghost use Rattle.outer_world.specs.Written.{Puts};
 ghost use Rattle.outer_world.specs.Texts.{read_fault_line, usage_line, want_of_memory_line};
 ghost use Rattle.tst_runner.specs.Verdicts.{difference_line};
 ghost use Rattle.source_files.specs.Loads.{line_of};
 ghost use Rattle.source_files.specs.declared.error.LoadError.TheVariants.{Memory};
-ghost use Rattle.nand_cli.specs.Inner.Parts.{Says, finish_result};
+ghost use Rattle.nand_cli.specs.Inner.Parts.{finish_result};
 ghost use Rattle.nand_cli.specs.declared.failure.Failure.TheVariants.{Unloaded};
 
 use outer_world::{Put, Sink};
@@ -58,40 +59,35 @@ pub fn finished(put: Put) -> Result<(), Failure>
 
 /// Puts the line of a refusal.
 pub fn tell_refusal<E: Sink>(refusal: &Refusal, err: &mut E) -> Put
-    ensures { Says (E.faults err.old) (E.faults err.new) (E.written err.old) (E.written err.new)
-        (line_of refusal.now) result }
+    ensures { Puts (E.state err.old) (E.state err.new) (line_of refusal.now) result }
 {
     refusal.diagnostic.put(refusal.path.as_str(), err)
 }
 
 /// Puts the message of a line that differs.
 pub fn tell_difference<E: Sink>(difference: &Difference, err: &mut E) -> Put
-    ensures { Says (E.faults err.old) (E.faults err.new) (E.written err.old) (E.written err.new)
-        (difference_line difference.now) result }
+    ensures { Puts (E.state err.old) (E.state err.new) (difference_line difference.now) result }
 {
     difference.put(err)
 }
 
 /// Puts the line that says that the words are no line.
 pub fn tell_usage<E: Sink>(err: &mut E) -> Put
-    ensures { Says (E.faults err.old) (E.faults err.new) (E.written err.old)
-        (E.written err.new) usage_line result }
+    ensures { Puts (E.state err.old) (E.state err.new) usage_line result }
 {
     err.put(b"usage: nand COMMAND ARGUMENTS\n")
 }
 
 /// Puts the message of a fault of the shelf.
 pub fn tell_read_fault<E: Sink>(err: &mut E) -> Put
-    ensures { Says (E.faults err.old) (E.faults err.new) (E.written err.old)
-        (E.written err.new) read_fault_line result }
+    ensures { Puts (E.state err.old) (E.state err.new) read_fault_line result }
 {
     err.put(b"nand: read fault\n")
 }
 
 /// Puts the message of want of memory.
 pub fn tell_memory<E: Sink>(err: &mut E) -> Put
-    ensures { Says (E.faults err.old) (E.faults err.new) (E.written err.old)
-        (E.written err.new) want_of_memory_line result }
+    ensures { Puts (E.state err.old) (E.state err.new) want_of_memory_line result }
 {
     err.put(b"nand: want of memory\n")
 }

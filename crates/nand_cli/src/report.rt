@@ -5,7 +5,7 @@ ghost use Rattle.key_script.specs.Codes.{code_at};
 ghost use Rattle.machine_io.specs.Driven.{IsDriven};
 ghost use Rattle.machine_io.specs.Report.{head_text};
 ghost use Rattle.machine_io.specs.declared.driving.End.{End};
-ghost use Rattle.outer_world.specs.Written.{CountsPut, Puts};
+ghost use Rattle.outer_world.specs.Written.{Puts};
 ghost use Rattle.nand_cli.specs.Commands.Run.{name_of};
 ghost use Rattle.nand_cli.specs.Inner.Reports.{CountsReport, IsPut, Reports, machine_head, machine_text};
 
@@ -56,9 +56,8 @@ fn put_report<L: Level<Point = Point>, O: Sink>(
     show: Show,
     out: &mut O,
 ) -> Put
-    ensures put { Puts (O.written out.old) (O.written out.new)
+    ensures put { Puts (O.state out.old) (O.state out.new)
         (machine_text name (names_of core.now) (L.reading level.now) end show) result }
-    ensures counts { CountsPut (O.faults out.old) (O.faults out.new) result }
 {
     let head = head_of(level, name, core, end);
     show_report(&head, show, |a| level.word_at(a), out)
@@ -81,8 +80,8 @@ pub fn report<L: Level<Point = Point>, O: Sink>(
         (λ text. (end : End) × IsDriven (code_at keys.now) (L.stands level.old)
         (L.reading level.old).moves cycles end (L.stands level.new) (L.reading level.new).moves
         × (text ≡ machine_text name (names_of core.now) (L.reading level.new) end show))
-        (O.written out.old) (O.written out.new) result }
-    ensures counts { CountsReport (O.faults out.old) (O.faults out.new) result }
+        (O.state out.old) (O.state out.new) result }
+    ensures counts { CountsReport (O.state out.old) (O.state out.new) result }
     ensures sure { L.sure ≡ true → IsPut result }
     ensures program { L.program level.new ≡ L.program level.old }
 {

@@ -5,9 +5,9 @@ use Rattle.command_line.specs.declared.reader.LineError.{LineError}
 use Rattle.command_line.specs.declared.reader.LineError.TheVariants as no_line
 use Rattle.outer_world.specs.Faults.{Rose}
 use Rattle.outer_world.specs.Files.{Files, path_in}
-use Rattle.outer_world.specs.State.{ShelfState}
+use Rattle.outer_world.specs.State.{ShelfState, SinkState}
 use Rattle.outer_world.specs.Texts.{read_fault_line, usage_line, want_of_memory_line}
-use Rattle.outer_world.specs.Written.{Got, GotPart}
+use Rattle.outer_world.specs.Written.{Got, Puts}
 use Rattle.outer_world.specs.declared.sink.Put.{Put}
 use Rattle.outer_world.specs.declared.sink.Put.TheVariants as put
 use Rattle.source_files.specs.Loads.{Refused, line_of}
@@ -41,19 +41,19 @@ Leaves files there unfailing line o e (Err failure.Out) = CutsOut files line o e
 Leaves files there unfailing line o e (Err failure.Echo) = CutsEcho files line o e
 
 -- What the shelf that was there, and what came on out and err, say of a line.
-abbrev pub Does : ShelfState → Line → Option (List ℕ) → Option (List ℕ) → Option (List ℕ) → Option (List ℕ) → Result (Unit {0}) Failure → Type 0
-Does shelf line out out' err err' result = (o : List ℕ) × (e : List ℕ) × Leaves shelf.files shelf.there shelf.unfailing line o e result × Got out out' o × Got err err' e
+abbrev pub Does : ShelfState → Line → SinkState → SinkState → SinkState → SinkState → Result (Unit {0}) Failure → Type 0
+Does shelf line out out' err err' result = (o : List ℕ) × (e : List ℕ) × Leaves shelf.files shelf.there shelf.unfailing line o e result × Got out.written out'.written o × Got err.written err'.written e
 
 -- What a line reads is not there, over a shelf with no call to come that is set up to fail.
 abbrev pub MissesLine : ShelfState → Line → Type 0
 MissesLine shelf line = shelf.unfailing → IfSome shelf.files (λ told. Lacks shelf.there told line)
 
 -- What doing a line says of the counts of faults of shelf, out and err.
-abbrev pub Counts : ℕ → ℕ → ℕ → ℕ → ℕ → ℕ → Result (Unit {0}) Failure → Type 0
-Counts shelf shelf' out out' err err' (Err (failure.Unloaded errors.Failed)) = Rose shelf shelf' × (out' ≡ out) × (err' ≡ err)
-Counts shelf shelf' out out' err err' (Err failure.Out) = ((shelf' ≡ shelf) ⊎ Rose shelf shelf') × Rose out out' × (err' ≡ err)
-Counts shelf shelf' out out' err err' (Err failure.Echo) = (shelf' ≡ shelf) × (out' ≡ out) × Rose err err'
-Counts shelf shelf' out out' err err' _ = (shelf' ≡ shelf) × (out' ≡ out) × (err' ≡ err)
+abbrev pub Counts : ℕ → ℕ → SinkState → SinkState → SinkState → SinkState → Result (Unit {0}) Failure → Type 0
+Counts shelf shelf' out out' err err' (Err (failure.Unloaded errors.Failed)) = Rose shelf shelf' × (out'.faults ≡ out.faults) × (err'.faults ≡ err.faults)
+Counts shelf shelf' out out' err err' (Err failure.Out) = ((shelf' ≡ shelf) ⊎ Rose shelf shelf') × Rose out.faults out'.faults × (err'.faults ≡ err.faults)
+Counts shelf shelf' out out' err err' (Err failure.Echo) = (shelf' ≡ shelf) × (out'.faults ≡ out.faults) × Rose err.faults err'.faults
+Counts shelf shelf' out out' err err' _ = (shelf' ≡ shelf) × (out'.faults ≡ out.faults) × (err'.faults ≡ err.faults)
 
 -- how a line ends with the last that it puts on out
 abbrev pub finish_result : Put → Result (Unit {0}) Failure
@@ -78,31 +78,25 @@ TellsWrong folder programs.Memory e = e ≡ errors.Memory
 
 -- ---- what is reported on err
 
--- What putting a text on err says of its count and its bytes.
-abbrev pub Says : ℕ → ℕ → Option (List ℕ) → Option (List ℕ) → List ℕ → Put → Type 0
-Says faults faults' written written' text put.Done = (faults' ≡ faults) × Got written written' text
-Says faults faults' written written' text put.Failed = Rose faults faults' × GotPart written written' text
-
 -- the status after a line was put on err, where this one is wanted
 abbrev pub told_status : Put → Status → Status
 told_status put.Done wanted = wanted
 told_status put.Failed wanted = status.WriteFault
 
 -- What reporting by a line says: the line was put and this is the status, or its putting failed.
-abbrev pub TellsBy : List ℕ → Status → ℕ → ℕ → Option (List ℕ) → Option (List ℕ) → Status → Type 0
-TellsBy line wanted faults faults' written written' s =
-    (p : Put) × Says faults faults' written written' line p × (s ≡ told_status p wanted)
+abbrev pub TellsBy : List ℕ → Status → SinkState → SinkState → Status → Type 0
+TellsBy line wanted before now s = (p : Put) × Puts before now line p × (s ≡ told_status p wanted)
 
 -- So words that are no line are reported, and so is a failure. After a write fault nothing more is
 -- put.
-abbrev pub TellsNoLine : LineError → ℕ → ℕ → Option (List ℕ) → Option (List ℕ) → Status → Type 0
-TellsNoLine no_line.Usage faults faults' written written' s = TellsBy usage_line status.Usage faults faults' written written' s
-TellsNoLine no_line.Memory faults faults' written written' s = TellsBy want_of_memory_line status.NoMemory faults faults' written written' s
+abbrev pub TellsNoLine : LineError → SinkState → SinkState → Status → Type 0
+TellsNoLine no_line.Usage before now s = TellsBy usage_line status.Usage before now s
+TellsNoLine no_line.Memory before now s = TellsBy want_of_memory_line status.NoMemory before now s
 
-abbrev pub TellsFailure : Failure → ℕ → ℕ → Option (List ℕ) → Option (List ℕ) → Status → Type 0
-TellsFailure (failure.Unloaded (errors.Refused r)) faults faults' written written' s = TellsBy (line_of r) status.Refused faults faults' written written' s
-TellsFailure (failure.Unloaded errors.Failed) faults faults' written written' s = TellsBy read_fault_line status.ReadFault faults faults' written written' s
-TellsFailure (failure.Unloaded errors.Memory) faults faults' written written' s = TellsBy want_of_memory_line status.NoMemory faults faults' written written' s
-TellsFailure (failure.Differs d) faults faults' written written' s = TellsBy (difference_line d) status.Differs faults faults' written written' s
-TellsFailure failure.Out faults faults' written written' s = (s ≡ status.WriteFault) × (faults' ≡ faults) × (written' ≡ written)
-TellsFailure failure.Echo faults faults' written written' s = (s ≡ status.WriteFault) × (faults' ≡ faults) × (written' ≡ written)
+abbrev pub TellsFailure : Failure → SinkState → SinkState → Status → Type 0
+TellsFailure (failure.Unloaded (errors.Refused r)) before now s = TellsBy (line_of r) status.Refused before now s
+TellsFailure (failure.Unloaded errors.Failed) before now s = TellsBy read_fault_line status.ReadFault before now s
+TellsFailure (failure.Unloaded errors.Memory) before now s = TellsBy want_of_memory_line status.NoMemory before now s
+TellsFailure (failure.Differs d) before now s = TellsBy (difference_line d) status.Differs before now s
+TellsFailure failure.Out before now s = (s ≡ status.WriteFault) × (now.faults ≡ before.faults) × (now.written ≡ before.written)
+TellsFailure failure.Echo before now s = (s ≡ status.WriteFault) × (now.faults ≡ before.faults) × (now.written ≡ before.written)

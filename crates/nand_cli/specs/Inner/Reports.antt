@@ -1,6 +1,7 @@
 -- What reporting a run says.
-use Rattle.std.specs.Prelude.{◌≡◌, ◌++◌, ℕ, suc, List, [], Option, Some, Result, Ok, Err, IsSome, length}
+use Rattle.std.specs.Prelude.{◌≡◌, ◌++◌, ℕ, suc, List, [], Some, Result, Ok, Err, IsSome, length}
 use Rattle.outer_world.specs.Faults.{Rose}
+use Rattle.outer_world.specs.State.{SinkState}
 use Rattle.outer_world.specs.Written.{Got, GotPart, Puts}
 use Rattle.outer_world.specs.declared.point.Point.{Point}
 use Rattle.outer_world.specs.declared.sink.Put.{Put}
@@ -36,17 +37,17 @@ use Rattle.nand_cli.specs.declared.failure.Failure.{Failure}
 use Rattle.nand_cli.specs.declared.failure.Failure.TheVariants as failure
 
 -- The report is put, or a front part of it, or nothing where memory is wanting.
-abbrev pub Reports : (List ℕ → Type 0) → Option (List ℕ) → Option (List ℕ) → Result (Unit {0}) Failure → Type 0
-Reports is_report out out' (Ok _) = (text : List ℕ) × is_report text × Got out out' text
-Reports is_report out out' (Err failure.Out) = (text : List ℕ) × is_report text × GotPart out out' text
-Reports is_report out out' (Err (failure.Unloaded e)) = (out' ≡ out) × (e ≡ Memory)
+abbrev pub Reports : (List ℕ → Type 0) → SinkState → SinkState → Result (Unit {0}) Failure → Type 0
+Reports is_report out out' (Ok _) = (text : List ℕ) × is_report text × Got out.written out'.written text
+Reports is_report out out' (Err failure.Out) = (text : List ℕ) × is_report text × GotPart out.written out'.written text
+Reports is_report out out' (Err (failure.Unloaded e)) = (out'.written ≡ out.written) × (e ≡ Memory)
 Reports is_report out out' (Err (failure.Differs d)) = ⊥
 Reports is_report out out' (Err failure.Echo) = ⊥
 
 -- The count of faults of out rises with a fault of out alone.
-abbrev pub CountsReport : ℕ → ℕ → Result (Unit {0}) Failure → Type 0
-CountsReport out out' (Err failure.Out) = Rose out out'
-CountsReport out out' _ = out' ≡ out
+abbrev pub CountsReport : SinkState → SinkState → Result (Unit {0}) Failure → Type 0
+CountsReport out out' (Err failure.Out) = Rose out.faults out'.faults
+CountsReport out out' _ = out'.faults ≡ out.faults
 
 -- No memory was wanted.
 abbrev pub IsPut : Result (Unit {0}) Failure → Type 0
@@ -140,7 +141,7 @@ gates_text g subs end show = machine_text names.Gates subs (gates_reading g) end
 
 -- After these lines came those of all parts in cycle n of a behaviour of the Computer with this image and these keys,
 -- and all of it was put.
-pub record PutsParts (image : List ℕ) (keys : ℕ → ℕ) (n : ℕ) (head : List ℕ) (before now : Option (List ℕ)) (answer : Put) : Type 0 where
+pub record PutsParts (image : List ℕ) (keys : ℕ → ℕ) (n : ℕ) (head : List ℕ) (before now : SinkState) (answer : Put) : Type 0 where
   pub rest : List ℕ
   pub wires : List ℕ → Histories
   pub behaves : IsComputer image keys (suc n) wires
@@ -149,7 +150,7 @@ pub record PutsParts (image : List ℕ) (keys : ℕ → ℕ) (n : ℕ) (head : L
 
 -- So it was put of the cycle that comes next, in which the keyboard holds this key, whatever the keys of the turns
 -- before.
-unfoldable pub PutsNets : GateMachine → ℕ → List ℕ → Option (List ℕ) → Option (List ℕ) → Put → Type 0
+unfoldable pub PutsNets : GateMachine → ℕ → List ℕ → SinkState → SinkState → Put → Type 0
 PutsNets g key head before now answer =
     (turns : List Turn) → GatesFollowed g turns → (keys : ℕ → ℕ) → ((c : ℕ) → IsKey (keys c)) → HoldsKeys keys 0 turns → keys (length turns) ≡ key
     → PutsParts g.image keys (length turns) head before now answer

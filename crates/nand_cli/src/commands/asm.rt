@@ -1,6 +1,5 @@
 //! The command `asm`: the words of an assembly file, as binary digits.
-ghost use Rattle.std.specs.Prelude.{List, ℕ, Option};
-ghost use Rattle.outer_world.specs.State.{Keeps};
+ghost use Rattle.outer_world.specs.State.{Keeps, SinkState};
 ghost use Rattle.command_line.specs.Line.{asm, of_file};
 ghost use Rattle.nand_cli.specs.Inner.Parts.{Counts, Does};
 
@@ -17,11 +16,10 @@ pub fn answer_asm<F: Shelf, O: Sink>(
     shelf: &mut F,
     out: &mut O,
 ) -> Result<(), Failure>
-    ensures does { (err : Option (List ℕ))
-        → Does (F.state shelf.old)
-        (of_file path.now asm) (O.written out.old) (O.written out.new) err err result }
-    ensures counts { (err : ℕ) → Counts (F.faults shelf.old) (F.faults shelf.new) (O.faults out.old)
-        (O.faults out.new) err err result }
+    ensures does { (err : SinkState) → Does (F.state shelf.old) (of_file path.now asm)
+        (O.state out.old) (O.state out.new) err err result }
+    ensures counts { (err : SinkState) → Counts (F.faults shelf.old) (F.faults shelf.new)
+        (O.state out.old) (O.state out.new) err err result }
     ensures keeps { Keeps (F.state shelf.old) (F.state shelf.new) }
 {
     let assembly = ProgramLanguage {

@@ -1,6 +1,5 @@
 //! The command `build`: the image of a folder's program.
-ghost use Rattle.std.specs.Prelude.{List, ℕ, Option};
-ghost use Rattle.outer_world.specs.State.{Keeps};
+ghost use Rattle.outer_world.specs.State.{Keeps, SinkState};
 ghost use Rattle.command_line.specs.Line.{build, of_classes, source_of};
 ghost use Rattle.nand_cli.specs.Inner.Parts.{Counts, Does};
 
@@ -18,11 +17,11 @@ pub fn answer_build<F: Shelf, O: Sink>(
     shelf: &mut F,
     out: &mut O,
 ) -> Result<(), Failure>
-    ensures does { (err : Option (List ℕ))
-        → Does (F.state shelf.old) (of_classes (source_of source.now) build) (O.written out.old)
-        (O.written out.new) err err result }
-    ensures counts { (err : ℕ) → Counts (F.faults shelf.old) (F.faults shelf.new) (O.faults out.old)
-        (O.faults out.new) err err result }
+    ensures does { (err : SinkState)
+        → Does (F.state shelf.old) (of_classes (source_of source.now) build) (O.state out.old)
+        (O.state out.new) err err result }
+    ensures counts { (err : SinkState) → Counts (F.faults shelf.old) (F.faults shelf.new)
+        (O.state out.old) (O.state out.new) err err result }
     ensures keeps { Keeps (F.state shelf.old) (F.state shelf.new) }
 {
     let program = load_built(alloc, source, shelf)?;

@@ -1,6 +1,5 @@
 //! The command `chip`: the printed form of a shipped chip.
-ghost use Rattle.std.specs.Prelude.{List, ℕ, Option};
-ghost use Rattle.outer_world.specs.State.{Keeps};
+ghost use Rattle.outer_world.specs.State.{Keeps, SinkState};
 ghost use Rattle.command_line.specs.Line.{chip};
 ghost use Rattle.source_files.specs.Loads.{Refused};
 ghost use Rattle.nand_cli.specs.Commands.Chip.{unknown_chip};
@@ -34,11 +33,10 @@ pub fn answer_chip<F: Shelf, O: Sink>(
     _shelf: &mut F,
     out: &mut O,
 ) -> Result<(), Failure>
-    ensures does { (err : Option (List ℕ))
-        → Does (F.state _shelf.old) (chip name.now)
-        (O.written out.old) (O.written out.new) err err result }
-    ensures counts { (err : ℕ) → Counts (F.faults _shelf.old) (F.faults _shelf.new)
-        (O.faults out.old) (O.faults out.new) err err result }
+    ensures does { (err : SinkState) → Does (F.state _shelf.old) (chip name.now) (O.state out.old)
+        (O.state out.new) err err result }
+    ensures counts { (err : SinkState) → Counts (F.faults _shelf.old) (F.faults _shelf.new)
+        (O.state out.old) (O.state out.new) err err result }
     ensures keeps { Keeps (F.state _shelf.old) (F.state _shelf.new) }
 {
     let library = library(alloc)?;

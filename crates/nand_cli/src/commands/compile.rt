@@ -1,6 +1,6 @@
 //! The command `compile`: the VM text of a folder's classes.
-ghost use Rattle.std.specs.Prelude.{◌≤◌, IfOk, List, ℕ, Option, length, map};
-ghost use Rattle.outer_world.specs.State.{Keeps};
+ghost use Rattle.std.specs.Prelude.{◌≤◌, IfOk, List, length, map};
+ghost use Rattle.outer_world.specs.State.{Keeps, SinkState};
 ghost use Rattle.command_line.specs.Line.{compile, of_classes, source_of};
 ghost use Rattle.jack_tree.specs.Seen.{the_file};
 ghost use Rattle.tower.specs.Compiled.{AreCompiled, AreNamed};
@@ -45,11 +45,11 @@ pub fn answer_compile<F: Shelf, O: Sink>(
     shelf: &mut F,
     out: &mut O,
 ) -> Result<(), Failure>
-    ensures does { (err : Option (List ℕ))
-        → Does (F.state shelf.old) (of_classes (source_of source.now) compile) (O.written out.old)
-        (O.written out.new) err err result }
-    ensures counts { (err : ℕ) → Counts (F.faults shelf.old) (F.faults shelf.new) (O.faults out.old)
-        (O.faults out.new) err err result }
+    ensures does { (err : SinkState)
+        → Does (F.state shelf.old) (of_classes (source_of source.now) compile) (O.state out.old)
+        (O.state out.new) err err result }
+    ensures counts { (err : SinkState) → Counts (F.faults shelf.old) (F.faults shelf.new)
+        (O.state out.old) (O.state out.new) err err result }
     ensures keeps { Keeps (F.state shelf.old) (F.state shelf.new) }
 {
     let classes = load_folder(alloc, &JackLanguage, source.folder, ENDING, shelf)?;

@@ -1,11 +1,11 @@
 //! The command `debug`: a program is built and its keys are read, and then the computer made of gates runs it to a statement, and the view there is
 //! put.
-ghost use Rattle.std.specs.Prelude.{◌≡◌, ◌++◌, ◌∷◌, List, ℕ, Option, option_map, IfOk, IsSome, true, decimal};
+ghost use Rattle.std.specs.Prelude.{◌≡◌, ◌++◌, ◌∷◌, option_map, IfOk, IsSome, true, decimal};
 ghost use Rattle.command_line.specs.Line.{debug, of_classes, source_of};
 ghost use Rattle.jack_debug.specs.Text.{view_text};
 ghost use Rattle.jack_debug.specs.Walk.{point_in};
-ghost use Rattle.outer_world.specs.Written.{CountsPut, Puts};
-ghost use Rattle.outer_world.specs.State.{Keeps};
+ghost use Rattle.outer_world.specs.Written.{Puts};
+ghost use Rattle.outer_world.specs.State.{Keeps, SinkState};
 ghost use Rattle.source_files.specs.Loads.{CountsLoad, Loads, Refused};
 ghost use Rattle.nand_cli.specs.Commands.Debug.{DebugRefuses, HasStatement, no_point, stop_text};
 ghost use Rattle.nand_cli.specs.Inner.Debugging.{CanShow, IsPreparedDebug, LacksPoint, TellsDriven, TellsMachine};
@@ -130,10 +130,9 @@ fn print_found<O: Sink>(
     view: &View,
     out: &mut O,
 ) -> Put
-    ensures put { Puts (O.written out.old) (O.written out.new)
+    ensures put { Puts (O.state out.old) (O.state out.new)
         (stop_text at.now.sub.now at.now.number computer.now.moves computer.now.tally.steps
         ++ view_text view.now) result }
-    ensures counts { CountsPut (O.faults out.old) (O.faults out.new) result }
 {
     match print_stop(at.sub, at.number, computer.moves(), computer.steps(), out) {
         Put::Done => print_view(view, out),
@@ -152,8 +151,8 @@ fn show_stop<O: Sink>(
     requires { found ≡ true → IsSome (point_in at.now.places.now.ranges computer.now.tally.at) }
     ensures reports { Reports
         (TellsMachine at.now.places.now at.now.sub.now at.now.number found computer.now)
-        (O.written out.old) (O.written out.new) result }
-    ensures counts { CountsReport (O.faults out.old) (O.faults out.new) result }
+        (O.state out.old) (O.state out.new) result }
+    ensures counts { CountsReport (O.state out.old) (O.state out.new) result }
 {
     if !found {
         return finished(print_none(computer.moves(), computer.steps(), out));
@@ -174,8 +173,8 @@ impl PreparedDebug {
         requires { CanShow self.old }
         ensures reports { Reports
             (TellsDriven self.old request.now.sub.now request.now.number request.now.cycles)
-            (O.written out.old) (O.written out.new) result }
-        ensures counts { CountsReport (O.faults out.old) (O.faults out.new) result }
+            (O.state out.old) (O.state out.new) result }
+        ensures counts { CountsReport (O.state out.old) (O.state out.new) result }
     {
         let PreparedDebug {
             places,
@@ -200,14 +199,12 @@ pub fn answer_debug<F: Shelf, O: Sink>(
     shelf: &mut F,
     out: &mut O,
 ) -> Result<(), Failure>
-    ensures does { (err : Option (List ℕ))
-        → Does (F.state shelf.old)
-        (of_classes (source_of source.now) (debug request.now.sub.now request.now.number
-        request.now.cycles (option_map (λ keys. keys.now) request.now.keys))) (O.written out.old)
-        (O.written out.new) err err result }
-    ensures counts { (err : ℕ)
-        → Counts (F.faults shelf.old) (F.faults shelf.new) (O.faults out.old) (O.faults out.new) err
-        err result }
+    ensures does { (err : SinkState)
+        → Does (F.state shelf.old) (of_classes (source_of source.now) (debug request.now.sub.now
+        request.now.number request.now.cycles (option_map (λ keys. keys.now) request.now.keys)))
+        (O.state out.old) (O.state out.new) err err result }
+    ensures counts { (err : SinkState) → Counts (F.faults shelf.old) (F.faults shelf.new)
+        (O.state out.old) (O.state out.new) err err result }
     ensures keeps { Keeps (F.state shelf.old) (F.state shelf.new) }
 {
     let mut prepared = prepare_debug(alloc, source, request, shelf)?;

@@ -1,6 +1,6 @@
 //! The command `exec`: words of the memory after a run of the instruction machine.
-ghost use Rattle.std.specs.Prelude.{◌≡◌, ◌≤◌, List, ℕ, IfOk, Option, length};
-ghost use Rattle.outer_world.specs.State.{Keeps};
+ghost use Rattle.std.specs.Prelude.{◌≡◌, ◌≤◌, IfOk, length};
+ghost use Rattle.outer_world.specs.State.{Keeps, SinkState};
 ghost use Rattle.command_line.specs.Line.{exec, of_file};
 ghost use Rattle.hack_isa.specs.Machine.{machine_at, image_words};
 ghost use Rattle.hack_machine.specs.Loaded.{machine_of};
@@ -54,12 +54,11 @@ pub fn answer_exec<F: Shelf, O: Sink>(
     shelf: &mut F,
     out: &mut O,
 ) -> Result<(), Failure>
-    ensures does { (err : Option (List ℕ))
-        → Does (F.state shelf.old)
+    ensures does { (err : SinkState) → Does (F.state shelf.old)
         (of_file path.now (exec request.now.cycles request.now.from request.now.to))
-        (O.written out.old) (O.written out.new) err err result }
-    ensures counts { (err : ℕ) → Counts (F.faults shelf.old) (F.faults shelf.new) (O.faults out.old)
-        (O.faults out.new) err err result }
+        (O.state out.old) (O.state out.new) err err result }
+    ensures counts { (err : SinkState) → Counts (F.faults shelf.old) (F.faults shelf.new)
+        (O.state out.old) (O.state out.new) err err result }
     ensures keeps { Keeps (F.state shelf.old) (F.state shelf.new) }
 {
     let language = ProgramLanguage {

@@ -1,6 +1,6 @@
 //! The command `map`: the map of the image of a folder's program, in either form.
-ghost use Rattle.std.specs.Prelude.{◌≡◌, List, ℕ, IfOk, Option, map};
-ghost use Rattle.outer_world.specs.State.{Keeps};
+ghost use Rattle.std.specs.Prelude.{◌≡◌, IfOk, map};
+ghost use Rattle.outer_world.specs.State.{Keeps, SinkState};
 ghost use Rattle.command_line.specs.Line.{map_image, of_classes, source_of};
 ghost use Rattle.command_line.specs.declared.request.MapFormat.TheVariants.{Places, Points};
 ghost use Rattle.nand_cli.specs.Inner.Parts.{Counts, Does};
@@ -33,11 +33,11 @@ fn answer_points<F: Shelf, O: Sink>(
     shelf: &mut F,
     out: &mut O,
 ) -> Result<(), Failure>
-    ensures does { (err : Option (List ℕ))
+    ensures does { (err : SinkState)
         → Does (F.state shelf.old) (of_classes (source_of source.now) (map_image Points))
-        (O.written out.old) (O.written out.new) err err result }
-    ensures counts { (err : ℕ) → Counts (F.faults shelf.old) (F.faults shelf.new) (O.faults out.old)
-        (O.faults out.new) err err result }
+        (O.state out.old) (O.state out.new) err err result }
+    ensures counts { (err : SinkState) → Counts (F.faults shelf.old) (F.faults shelf.new)
+        (O.state out.old) (O.state out.new) err err result }
     ensures keeps { Keeps (F.state shelf.old) (F.state shelf.new) }
 {
     let program = load_built(alloc, source, shelf)?;
@@ -52,11 +52,11 @@ fn answer_places<F: Shelf, O: Sink>(
     shelf: &mut F,
     out: &mut O,
 ) -> Result<(), Failure>
-    ensures does { (err : Option (List ℕ))
+    ensures does { (err : SinkState)
         → Does (F.state shelf.old) (of_classes (source_of source.now) (map_image Places))
-        (O.written out.old) (O.written out.new) err err result }
-    ensures counts { (err : ℕ) → Counts (F.faults shelf.old) (F.faults shelf.new) (O.faults out.old)
-        (O.faults out.new) err err result }
+        (O.state out.old) (O.state out.new) err err result }
+    ensures counts { (err : SinkState) → Counts (F.faults shelf.old) (F.faults shelf.new)
+        (O.state out.old) (O.state out.new) err err result }
     ensures keeps { Keeps (F.state shelf.old) (F.state shelf.new) }
 {
     let program = load_placed(alloc, source, shelf)?;
@@ -71,11 +71,11 @@ pub fn answer_map<F: Shelf, O: Sink>(
     shelf: &mut F,
     out: &mut O,
 ) -> Result<(), Failure>
-    ensures does { (err : Option (List ℕ))
+    ensures does { (err : SinkState)
         → Does (F.state shelf.old) (of_classes (source_of source.now) (map_image format))
-        (O.written out.old) (O.written out.new) err err result }
-    ensures counts { (err : ℕ) → Counts (F.faults shelf.old) (F.faults shelf.new) (O.faults out.old)
-        (O.faults out.new) err err result }
+        (O.state out.old) (O.state out.new) err err result }
+    ensures counts { (err : SinkState) → Counts (F.faults shelf.old) (F.faults shelf.new)
+        (O.state out.old) (O.state out.new) err err result }
     ensures keeps { Keeps (F.state shelf.old) (F.state shelf.new) }
 {
     match format {

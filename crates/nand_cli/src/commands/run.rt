@@ -1,6 +1,6 @@
 //! The command `run`: a program is built and its keys are read, and then it is run and its report is put.
-ghost use Rattle.std.specs.Prelude.{List, ℕ, Option, option_map};
-ghost use Rattle.outer_world.specs.State.{Keeps};
+ghost use Rattle.std.specs.Prelude.{ℕ, option_map};
+ghost use Rattle.outer_world.specs.State.{Keeps, SinkState};
 ghost use Rattle.command_line.specs.Line.{of_classes, run, source_of};
 ghost use Rattle.jack_compiler.specs.Resolved.{IsResolvedCore};
 ghost use Rattle.key_script.specs.Codes.{code_at};
@@ -112,8 +112,8 @@ fn report_machine<O: Sink>(
     requires start { IsAtItsStart core.now machine.old }
     ensures reports { Reports
         (λ text. IsReport (level_of machine.old) core.now (code_at keys.now) cycles text
-        × TellsAtMost cycles text) (O.written out.old) (O.written out.new) result }
-    ensures counts { CountsReport (O.faults out.old) (O.faults out.new) result }
+        × TellsAtMost cycles text) (O.state out.old) (O.state out.new) result }
+    ensures counts { CountsReport (O.state out.old) (O.state out.new) result }
     ensures put { WantsNoMemory machine.old → IsPut result }
 {
     match machine {
@@ -136,8 +136,8 @@ impl PreparedRun {
         requires { IsReady self }
         ensures reports { Reports
             (λ text. IsReport (level_of self.machine) self.core (code_at self.keys) self.cycles text
-            × TellsAtMost self.cycles text) (O.written out.old) (O.written out.new) result }
-        ensures counts { CountsReport (O.faults out.old) (O.faults out.new) result }
+            × TellsAtMost self.cycles text) (O.state out.old) (O.state out.new) result }
+        ensures counts { CountsReport (O.state out.old) (O.state out.new) result }
         ensures put { WantsNoMemory self.machine → IsPut result }
     {
         report_machine(&mut self.machine, &self.core, &self.keys, self.cycles, out)
@@ -152,14 +152,11 @@ pub fn answer_run<F: Shelf, O: Sink>(
     shelf: &mut F,
     out: &mut O,
 ) -> Result<(), Failure>
-    ensures does { (err : Option (List ℕ))
-        → Does (F.state shelf.old)
-        (of_classes (source_of source.now) (run request.now.level request.now.cycles
-        (option_map (λ keys. keys.now) request.now.keys))) (O.written out.old) (O.written out.new)
-        err err result }
-    ensures counts { (err : ℕ)
-        → Counts (F.faults shelf.old) (F.faults shelf.new) (O.faults out.old) (O.faults out.new) err
-        err result }
+    ensures does { (err : SinkState) → Does (F.state shelf.old) (of_classes (source_of source.now)
+        (run request.now.level request.now.cycles (option_map (λ keys. keys.now) request.now.keys)))
+        (O.state out.old) (O.state out.new) err err result }
+    ensures counts { (err : SinkState) → Counts (F.faults shelf.old) (F.faults shelf.new)
+        (O.state out.old) (O.state out.new) err err result }
     ensures keeps { Keeps (F.state shelf.old) (F.state shelf.new) }
 {
     let prepared = prepare_run(alloc, source, request, shelf)?;

@@ -1,6 +1,5 @@
 //! The command `show`: the printed form of a source.
-ghost use Rattle.std.specs.Prelude.{List, ℕ, Option};
-ghost use Rattle.outer_world.specs.State.{Keeps};
+ghost use Rattle.outer_world.specs.State.{Keeps, SinkState};
 ghost use Rattle.command_line.specs.Line.{of_file, show};
 ghost use Rattle.nand_cli.specs.Inner.Parts.{Counts, Does};
 
@@ -20,11 +19,10 @@ fn show_vm<F: Shelf, O: Sink>(
     shelf: &mut F,
     out: &mut O,
 ) -> Result<(), Failure>
-    ensures does { (err : Option (List ℕ))
-        → Does (F.state shelf.old) (of_file path.now (show SourceKind.Vm)) (O.written out.old)
-        (O.written out.new) err err result }
-    ensures counts { (err : ℕ) → Counts (F.faults shelf.old) (F.faults shelf.new) (O.faults out.old)
-        (O.faults out.new) err err result }
+    ensures does { (err : SinkState) → Does (F.state shelf.old)
+        (of_file path.now (show SourceKind.Vm)) (O.state out.old) (O.state out.new) err err result }
+    ensures counts { (err : SinkState) → Counts (F.faults shelf.old) (F.faults shelf.new)
+        (O.state out.old) (O.state out.new) err err result }
     ensures keeps { Keeps (F.state shelf.old) (F.state shelf.new) }
 {
     let file = load(alloc, &VmLanguage { bare: true }, path, "", shelf)?;
@@ -40,11 +38,11 @@ fn show_class<F: Shelf, O: Sink>(
     shelf: &mut F,
     out: &mut O,
 ) -> Result<(), Failure>
-    ensures does { (err : Option (List ℕ))
-        → Does (F.state shelf.old) (of_file path.now (show SourceKind.Jack)) (O.written out.old)
-        (O.written out.new) err err result }
-    ensures counts { (err : ℕ) → Counts (F.faults shelf.old) (F.faults shelf.new) (O.faults out.old)
-        (O.faults out.new) err err result }
+    ensures does { (err : SinkState)
+        → Does (F.state shelf.old) (of_file path.now (show SourceKind.Jack)) (O.state out.old)
+        (O.state out.new) err err result }
+    ensures counts { (err : SinkState) → Counts (F.faults shelf.old) (F.faults shelf.new)
+        (O.state out.old) (O.state out.new) err err result }
     ensures keeps { Keeps (F.state shelf.old) (F.state shelf.new) }
 {
     printed_class_law();
@@ -59,11 +57,11 @@ fn show_chip<F: Shelf, O: Sink>(
     shelf: &mut F,
     out: &mut O,
 ) -> Result<(), Failure>
-    ensures does { (err : Option (List ℕ))
-        → Does (F.state shelf.old) (of_file path.now (show SourceKind.Hdl)) (O.written out.old)
-        (O.written out.new) err err result }
-    ensures counts { (err : ℕ) → Counts (F.faults shelf.old) (F.faults shelf.new) (O.faults out.old)
-        (O.faults out.new) err err result }
+    ensures does { (err : SinkState)
+        → Does (F.state shelf.old) (of_file path.now (show SourceKind.Hdl)) (O.state out.old)
+        (O.state out.new) err err result }
+    ensures counts { (err : SinkState) → Counts (F.faults shelf.old) (F.faults shelf.new)
+        (O.state out.old) (O.state out.new) err err result }
     ensures keeps { Keeps (F.state shelf.old) (F.state shelf.new) }
 {
     let chip = load(alloc, &HdlLanguage, path, "", shelf)?;
@@ -78,11 +76,10 @@ pub fn answer_show<F: Shelf, O: Sink>(
     shelf: &mut F,
     out: &mut O,
 ) -> Result<(), Failure>
-    ensures does { (err : Option (List ℕ))
-        → Does (F.state shelf.old)
-        (of_file path.now (show kind)) (O.written out.old) (O.written out.new) err err result }
-    ensures counts { (err : ℕ) → Counts (F.faults shelf.old) (F.faults shelf.new) (O.faults out.old)
-        (O.faults out.new) err err result }
+    ensures does { (err : SinkState) → Does (F.state shelf.old) (of_file path.now (show kind))
+        (O.state out.old) (O.state out.new) err err result }
+    ensures counts { (err : SinkState) → Counts (F.faults shelf.old) (F.faults shelf.new)
+        (O.state out.old) (O.state out.new) err err result }
     ensures keeps { Keeps (F.state shelf.old) (F.state shelf.new) }
 {
     match kind {

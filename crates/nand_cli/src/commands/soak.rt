@@ -1,9 +1,9 @@
 //! The command `soak`: the summary of generated programs.
-ghost use Rattle.std.specs.Prelude.{◌≡◌, ◌+◌, ◌%◌, ◌<◌, ◌≤◌, [], List, ℕ, IfOk, Option, if◌then◌else◌};
+ghost use Rattle.std.specs.Prelude.{◌≡◌, ◌+◌, ◌%◌, ◌<◌, ◌≤◌, [], IfOk, if◌then◌else◌};
 ghost use Rattle.command_line.specs.Line.{soak};
-ghost use Rattle.outer_world.specs.Held.{HaveSameSink, pending, sink_of};
-ghost use Rattle.outer_world.specs.Written.{CountsPut, Passes, Puts};
-ghost use Rattle.outer_world.specs.State.{Keeps};
+ghost use Rattle.outer_world.specs.Held.{Buffers, HaveSameSink, pending, sink_of};
+ghost use Rattle.outer_world.specs.Written.{Puts};
+ghost use Rattle.outer_world.specs.State.{Keeps, SinkState};
 ghost use Rattle.source_files.specs.Loads.{Loads};
 ghost use Rattle.nand_cli.specs.Commands.Soak.{AreOutcomes, HasNoImage, HasOutcome, SoakRefuses, soak_files, summary_text};
 ghost use Rattle.nand_cli.specs.Inner.Parts.{Counts, Does};
@@ -99,10 +99,8 @@ fn summary_of(alloc: Global, seed: u32, count: u32) -> Result<Summary, LoadError
 // Puts the four lines.
 fn put_summary<S: Sink>(seed: u32, count: u32, told: &Summary, out: &mut Pieces<'_, S>) -> Put
     ensures same_sink { HaveSameSink out.old out.new }
-    ensures passes { Passes (S.written (sink_of out.old))
-        (pending out.old) (S.written (sink_of out.new)) (pending out.new)
+    ensures passes { Buffers out.old out.new
         (summary_text seed count told.now.agree told.now.steps told.now.sum) result }
-    ensures counts { CountsPut (S.faults (sink_of out.old)) (S.faults (sink_of out.new)) result }
 {
     let mut seeds = Buffer::new();
     let mut counts = Buffer::new();
@@ -128,9 +126,8 @@ fn put_summary<S: Sink>(seed: u32, count: u32, told: &Summary, out: &mut Pieces<
 fn put_whole<S: Sink>(seed: u32, count: u32, told: &Summary, out: &mut Pieces<'_, S>) -> Put
     requires { pending out.old ≡ [] }
     ensures same_sink { HaveSameSink out.old out.new }
-    ensures put { Puts (S.written (sink_of out.old)) (S.written (sink_of out.new))
+    ensures put { Puts (S.state (sink_of out.old)) (S.state (sink_of out.new))
         (summary_text seed count told.now.agree told.now.steps told.now.sum) result }
-    ensures counts { CountsPut (S.faults (sink_of out.old)) (S.faults (sink_of out.new)) result }
 {
     match put_summary(seed, count, told, out) {
         Put::Done => out.finish(),
@@ -140,9 +137,8 @@ fn put_whole<S: Sink>(seed: u32, count: u32, told: &Summary, out: &mut Pieces<'_
 
 // The same, into a sink.
 fn show_summary<O: Sink>(seed: u32, count: u32, told: &Summary, out: &mut O) -> Put
-    ensures put { Puts (O.written out.old) (O.written out.new)
+    ensures put { Puts (O.state out.old) (O.state out.new)
         (summary_text seed count told.now.agree told.now.steps told.now.sum) result }
-    ensures counts { CountsPut (O.faults out.old) (O.faults out.new) result }
 {
     let mut pieces = Pieces::new(out);
     put_whole(seed, count, told, &mut pieces)
@@ -156,11 +152,10 @@ pub fn answer_soak<F: Shelf, O: Sink>(
     _shelf: &mut F,
     out: &mut O,
 ) -> Result<(), Failure>
-    ensures does { (err : Option (List ℕ))
-        → Does (F.state _shelf.old) (soak seed count)
-        (O.written out.old) (O.written out.new) err err result }
-    ensures counts { (err : ℕ) → Counts (F.faults _shelf.old) (F.faults _shelf.new)
-        (O.faults out.old) (O.faults out.new) err err result }
+    ensures does { (err : SinkState) → Does (F.state _shelf.old) (soak seed count) (O.state out.old)
+        (O.state out.new) err err result }
+    ensures counts { (err : SinkState) → Counts (F.faults _shelf.old) (F.faults _shelf.new)
+        (O.state out.old) (O.state out.new) err err result }
     ensures keeps { Keeps (F.state _shelf.old) (F.state _shelf.new) }
 {
     let told = summary_of(alloc, seed, count)?;

@@ -45,11 +45,10 @@ pub fn answer_test<F: Shelf, O: Sink, E: Sink>(
     out: &mut O,
     err: &mut E,
 ) -> Result<(), Failure>
-    ensures does { Does (F.state shelf.old)
-        (test path.now gates simplify) (O.written out.old) (O.written out.new) (E.written err.old)
-        (E.written err.new) result }
-    ensures counts { Counts (F.faults shelf.old) (F.faults shelf.new) (O.faults out.old)
-        (O.faults out.new) (E.faults err.old) (E.faults err.new) result }
+    ensures does { Does (F.state shelf.old) (test path.now gates simplify) (O.state out.old)
+        (O.state out.new) (E.state err.old) (E.state err.new) result }
+    ensures counts { Counts (F.faults shelf.old) (F.faults shelf.new) (O.state out.old)
+        (O.state out.new) (E.state err.old) (E.state err.new) result }
     ensures keeps { Keeps (F.state shelf.old) (F.state shelf.new) }
 {
     ended(run_script(alloc, path, memories_of(gates), simplify, shelf, out, err))

@@ -1,6 +1,6 @@
 //! The command `vm`: the assembly of a folder's VM files.
-ghost use Rattle.std.specs.Prelude.{◌≡◌, ◌≤◌, All, List, ℕ, IfOk, Ok, Option, length};
-ghost use Rattle.outer_world.specs.State.{Keeps, MissesFolder};
+ghost use Rattle.std.specs.Prelude.{◌≡◌, ◌≤◌, All, IfOk, Ok, length};
+ghost use Rattle.outer_world.specs.State.{Keeps, MissesFolder, SinkState};
 ghost use Rattle.command_line.specs.Line.{vm};
 ghost use Rattle.hack_isa.specs.Machine.{image_words};
 ghost use Rattle.source_files.specs.Loads.{CountsLoad, Loads};
@@ -78,11 +78,10 @@ pub fn answer_vm<F: Shelf, O: Sink>(
     shelf: &mut F,
     out: &mut O,
 ) -> Result<(), Failure>
-    ensures does { (err : Option (List ℕ))
-        → Does (F.state shelf.old) (vm folder.now bare)
-        (O.written out.old) (O.written out.new) err err result }
-    ensures counts { (err : ℕ) → Counts (F.faults shelf.old) (F.faults shelf.new) (O.faults out.old)
-        (O.faults out.new) err err result }
+    ensures does { (err : SinkState) → Does (F.state shelf.old) (vm folder.now bare)
+        (O.state out.old) (O.state out.new) err err result }
+    ensures counts { (err : SinkState) → Counts (F.faults shelf.old) (F.faults shelf.new)
+        (O.state out.old) (O.state out.new) err err result }
     ensures keeps { Keeps (F.state shelf.old) (F.state shelf.new) }
 {
     let program = load_program(alloc, folder, bare, shelf)?;

@@ -54,8 +54,8 @@ pub fn report_words<O: Sink>(
     requires words { (c : ℕ) → IsKey (code_at keys.now c) }
     requires start { IsAtStart core.now computer.old }
     ensures reports { Reports (IsGatesReport core.now (code_at keys.now) cycles (Shown.Words show))
-        (O.written out.old) (O.written out.new) result }
-    ensures counts { CountsReport (O.faults out.old) (O.faults out.new) result }
+        (O.state out.old) (O.state out.new) result }
+    ensures counts { CountsReport (O.state out.old) (O.state out.new) result }
     ensures put { IsPut result }
 {
     report(computer, LevelName::Gates, core, keys, cycles, show, out)
@@ -74,8 +74,9 @@ fn put_nets<O: Sink>(
     requires empty { pending out.old ≡ [] }
     ensures same_sink { HaveSameSink out.old out.new }
     ensures put { PutsNets computer.old key (gates_head computer.old (names_of core.now) end)
-        (O.written (sink_of out.old)) (O.written (sink_of out.new)) result }
-    ensures counts { CountsPut (O.faults (sink_of out.old)) (O.faults (sink_of out.new)) result }
+        (O.state (sink_of out.old)) (O.state (sink_of out.new)) result }
+    ensures counts { CountsPut (O.state (sink_of out.old)).faults
+        (O.state (sink_of out.new)).faults result }
 {
     match put_head(&head_of(computer, LevelName::Gates, core, end), out) {
         Put::Done => {}
@@ -97,8 +98,8 @@ fn show_nets<O: Sink>(
 ) -> Put
     requires { IsSome computer.old.wiring.parts }
     ensures put { PutsNets computer.old key (gates_head computer.old (names_of core.now) end)
-        (O.written out.old) (O.written out.new) result }
-    ensures counts { CountsPut (O.faults out.old) (O.faults out.new) result }
+        (O.state out.old) (O.state out.new) result }
+    ensures counts { CountsPut (O.state out.old).faults (O.state out.new).faults result }
 {
     let mut pieces = Pieces::new(out);
     put_nets(computer, core, end, key, &mut pieces)
@@ -116,8 +117,8 @@ fn report_nets<O: Sink>(
     requires words { (c : ℕ) → IsKey (code_at keys.now c) }
     requires start { IsWholeAtStart core.now computer.old }
     ensures reports { Reports (IsGatesReport core.now (code_at keys.now) cycles Shown.Nets)
-        (O.written out.old) (O.written out.new) result }
-    ensures counts { CountsReport (O.faults out.old) (O.faults out.new) result }
+        (O.state out.old) (O.state out.new) result }
+    ensures counts { CountsReport (O.state out.old) (O.state out.new) result }
     ensures put { IsPut result }
 {
     let n = u64::from(cycles);
@@ -139,8 +140,8 @@ pub fn report_gates<O: Sink>(
     requires words { (c : ℕ) → IsKey (code_at keys.now c) }
     requires start { IsWholeAtStart core.now computer.old }
     ensures reports { Reports (IsGatesReport core.now (code_at keys.now) cycles shown)
-        (O.written out.old) (O.written out.new) result }
-    ensures counts { CountsReport (O.faults out.old) (O.faults out.new) result }
+        (O.state out.old) (O.state out.new) result }
+    ensures counts { CountsReport (O.state out.old) (O.state out.new) result }
     ensures put { IsPut result }
 {
     match shown {

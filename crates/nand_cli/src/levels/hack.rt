@@ -40,8 +40,8 @@ pub fn report_hack<O: Sink>(
     requires words { (c : ℕ) → IsKey (code_at keys.now c) }
     requires start { IsHackAtStart core.now machine.old }
     ensures reports { Reports (IsHackReport core.now (code_at keys.now) cycles show)
-        (O.written out.old) (O.written out.new) result }
-    ensures counts { CountsReport (O.faults out.old) (O.faults out.new) result }
+        (O.state out.old) (O.state out.new) result }
+    ensures counts { CountsReport (O.state out.old) (O.state out.new) result }
     ensures put { IsPut result }
 {
     report(machine, LevelName::Hack, core, keys, cycles, show, out)

@@ -25,8 +25,8 @@ pub fn report_jack<O: Sink>(
 ) -> Result<(), Failure>
     requires { IsResolvedCore core.now }
     ensures reports { Reports (IsJackReport core.now (code_at keys.now) cycles show)
-        (O.written out.old) (O.written out.new) result }
-    ensures counts { CountsReport (O.faults out.old) (O.faults out.new) result }
+        (O.state out.old) (O.state out.new) result }
+    ensures counts { CountsReport (O.state out.old) (O.state out.new) result }
 {
     let mut jack = Jack::new(alloc, core)?;
     report(&mut jack, LevelName::Jack, core, keys, cycles, show, out)

@@ -40,9 +40,9 @@ pub fn report_vm<O: Sink>(
     requires resolved { IsResolvedCore core.now }
     requires words { (c : ℕ) → IsKey (code_at keys.now c) }
     requires start { IsVmAtStart core.now vm.old }
-    ensures reports { Reports (IsVmReport core.now (code_at keys.now) cycles show)
-        (O.written out.old) (O.written out.new) result }
-    ensures counts { CountsReport (O.faults out.old) (O.faults out.new) result }
+    ensures reports { Reports (IsVmReport core.now (code_at keys.now) cycles show) (O.state out.old)
+        (O.state out.new) result }
+    ensures counts { CountsReport (O.state out.old) (O.state out.new) result }
     ensures put { IsPut result }
 {
     report(vm, LevelName::Vm, core, keys, cycles, show, out)

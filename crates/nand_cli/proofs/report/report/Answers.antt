@@ -19,10 +19,10 @@ returns-clause-reports g c =
     let D : ℕ → Type 0 = λ n. IsDriven code (stands old) (reading old).moves n end (stands new) (reading new).moves in
     rw (c.finished.ensures) (reports_by (λ t. (e : End) × IsDriven code (stands old) (reading old).moves c.args.cycles e (stands new) (reading new).moves
     × (t ≡ machine_text c.args.name (names_of c.args.core.now) (reading new) e c.args.show))
-    text _ _ c.put_report.result (end, subst D c.from.ensures c.in_ok-end.ensures.driven, refl) c.put_report.ensures.put)
+    text (g.O.Sink.state c.args.out.now) (g.O.Sink.state c.put_report.new.out) c.put_report.result (end, subst D c.from.ensures c.in_ok-end.ensures.driven, refl) c.put_report.ensures.put)
 
 pub returns-clause-counts : goal.returns-clause-counts
-returns-clause-counts g c = rw (c.finished.ensures) (counts_by _ _ c.put_report.result c.put_report.ensures.counts)
+returns-clause-counts g c = rw (c.finished.ensures) (counts_by (g.O.Sink.state c.args.out.now) (g.O.Sink.state c.put_report.new.out) c.put_report.result c.put_report.ensures.put.counts)
 
 pub returns-in_err-end-clause-sure : goal.returns-in_err-end-clause-sure
 returns-in_err-end-clause-sure g c = λ sure. let made = c.in_err-end.ensures.sure sure in absurd (let no : ⊥ = cc in no)

@@ -17,21 +17,21 @@ returns-in_err-program-clause-does g c = λ err.
     let source = source_of c.args.source.now in
     let there = (g.F.Shelf.state c.args.shelf.now).there in
     let steady = (g.F.Shelf.state c.args.shelf.now).unfailing in
-    rw (p.1, p.2) (nothing_put (λ (b : BuiltProgram). FolderBuilds files source b.core b.image) (BuildRefuses files source) (steady → LacksFolder files there folder) files there steady (of_classes (source_of c.args.source.now) build) (g.O.Sink.written c.args.out.now) err _
+    rw (p.1, p.2) (nothing_put (λ (b : BuiltProgram). FolderBuilds files source b.core b.image) (BuildRefuses files source) (steady → LacksFolder files there folder) files there steady (of_classes (source_of c.args.source.now) build) (g.O.Sink.state c.args.out.now) err _
     (λ line k. (refl, k, refl)) (λ k s. missing files there folder (of_classes (source_of c.args.source.now) build) (λ told none. inl none) (k s)) c.in_err-program.ensures.loads tt)
 
 pub returns-in_err-program-clause-counts : goal.returns-in_err-program-clause-counts
 returns-in_err-program-clause-counts g c = λ err.
     let p = err_from_is_err_and c.from_residual.result c.from_residual.ensures.1 in
-    rw (p.1, p.2) (unread_counts BuiltProgram _ _ _ _ err c.in_err-program.ensures.counts)
+    rw (p.1, p.2) (unread_counts BuiltProgram _ _ _ (g.O.Sink.state c.args.out.now) err c.in_err-program.ensures.counts)
 
 pub returns-clause-does : goal.returns-clause-does
 returns-clause-does g c = λ err.
-    let P : List ℕ → Type 0 = λ words. Puts (g.O.Sink.written c.args.out.now) (g.O.Sink.written c.write_hack.new.out) (image_text words) c.write_hack.result in
+    let P : List ℕ → Type 0 = λ words. Puts (g.O.Sink.state c.args.out.now) (g.O.Sink.state c.write_hack.new.out) (image_text words) c.write_hack.result in
     let program = c.in_ok-program.program in
-    rw (c.finished.ensures) (done_by (g.F.Shelf.state c.args.shelf.now).files (g.F.Shelf.state c.args.shelf.now).there (g.F.Shelf.state c.args.shelf.now).unfailing (of_classes (source_of c.args.source.now) build) (image_text program.image.words) _ _ err c.write_hack.result
+    rw (c.finished.ensures) (done_by (g.F.Shelf.state c.args.shelf.now).files (g.F.Shelf.state c.args.shelf.now).there (g.F.Shelf.state c.args.shelf.now).unfailing (of_classes (source_of c.args.source.now) build) (image_text program.image.words) (g.O.Sink.state c.args.out.now) (g.O.Sink.state c.write_hack.new.out) err c.write_hack.result
     ((program.core, program.image, c.in_ok-program.ensures.loads, refl), refl) (subst P c.as_slice.ensures c.write_hack.ensures.put) tt)
 
 pub returns-clause-counts : goal.returns-clause-counts
 returns-clause-counts g c = λ err.
-    rw (c.finished.ensures) (done_counts _ _ _ _ err c.write_hack.result c.in_ok-program.ensures.counts c.write_hack.ensures.counts)
+    rw (c.finished.ensures) (done_counts _ _ (g.O.Sink.state c.args.out.now) (g.O.Sink.state c.write_hack.new.out) err c.write_hack.result c.in_ok-program.ensures.counts c.write_hack.ensures.put.counts)

@@ -25,13 +25,13 @@ returns-in_err-classes-clause-does g c = λ err.
     let folder = c.args.source.now.folder.now in
     let there = (g.F.Shelf.state c.args.shelf.now).there in
     let steady = (g.F.Shelf.state c.args.shelf.now).unfailing in
-    rw (p.1, p.2) (nothing_put (λ (classes : Vec Class Global). HasTrees files folder classes.items) (IsUnread SpellsClass RefusesClass (codes ".jack") files folder) (steady → LacksFolder files there folder) files there steady (of_classes (source_of c.args.source.now) compile) (g.O.Sink.written c.args.out.now) err _
+    rw (p.1, p.2) (nothing_put (λ (classes : Vec Class Global). HasTrees files folder classes.items) (IsUnread SpellsClass RefusesClass (codes ".jack") files folder) (steady → LacksFolder files there folder) files there steady (of_classes (source_of c.args.source.now) compile) (g.O.Sink.state c.args.out.now) err _
     (λ line k. (refl, unread (seen_unread files folder line k), refl)) (λ k s. missing files there folder (of_classes (source_of c.args.source.now) compile) (λ told none. inl none) (k s)) c.in_err-classes.ensures.loads tt)
 
 pub returns-in_err-classes-clause-counts : goal.returns-in_err-classes-clause-counts
 returns-in_err-classes-clause-counts g c = λ err.
     let p = err_from_is_err_and c.from_residual.result c.from_residual.ensures.1 in
-    rw (p.1, p.2) (unread_counts (Vec Class Global) _ _ _ _ err c.in_err-classes.ensures.counts)
+    rw (p.1, p.2) (unread_counts (Vec Class Global) _ _ _ (g.O.Sink.state c.args.out.now) err c.in_err-classes.ensures.counts)
 
 pub compiled-requires-clause-few : goal.compiled-requires-clause-few
 compiled-requires-clause-few g c =
@@ -47,14 +47,14 @@ returns-in_err-files-clause-does g c = λ err.
     let folder = c.args.source.now.folder.now in
     let P : List Class → Type 0 = λ classes. HasTrees files folder classes in
     let classes = c.deref.result.now in
-    rw (p.1, p.2) (nothing_put (λ (compiled : List File). AreCompiled c.args.source.now.replace classes compiled) (IsMeaningless (source_of c.args.source.now) (map the_file classes)) ⊥ files (g.F.Shelf.state c.args.shelf.now).there (g.F.Shelf.state c.args.shelf.now).unfailing (of_classes (source_of c.args.source.now) compile) (g.O.Sink.written c.args.out.now) err _
+    rw (p.1, p.2) (nothing_put (λ (compiled : List File). AreCompiled c.args.source.now.replace classes compiled) (IsMeaningless (source_of c.args.source.now) (map the_file classes)) ⊥ files (g.F.Shelf.state c.args.shelf.now).there (g.F.Shelf.state c.args.shelf.now).unfailing (of_classes (source_of c.args.source.now) compile) (g.O.Sink.state c.args.out.now) err _
     (λ line k. (refl, meaningless (map the_file classes) (seen_classes files folder classes (subst P (sym c.deref.ensures.value) c.in_ok-classes.ensures.loads)) k, refl)) (λ h. absurd h) c.in_err-files.ensures.makes tt)
 
 pub returns-in_err-files-clause-counts : goal.returns-in_err-files-clause-counts
 returns-in_err-files-clause-counts g c = λ err.
     let p = err_from_is_err_and c.from_residual-in_err-files.result c.from_residual-in_err-files.ensures.1 in
     let classes = c.deref.result.now in
-    rw (p.1, p.2) (unmade_counts (λ (compiled : List File). AreCompiled c.args.source.now.replace classes compiled) (IsMeaningless (source_of c.args.source.now) (map the_file classes)) _ _ _ _ err c.in_err-files.ensures.makes c.in_ok-classes.ensures.counts)
+    rw (p.1, p.2) (unmade_counts (λ (compiled : List File). AreCompiled c.args.source.now.replace classes compiled) (IsMeaningless (source_of c.args.source.now) (map the_file classes)) _ _ _ (g.O.Sink.state c.args.out.now) err c.in_err-files.ensures.makes c.in_ok-classes.ensures.counts)
 
 pub returns-clause-does : goal.returns-clause-does
 returns-clause-does g c = λ err.
@@ -65,5 +65,5 @@ returns-clause-does g c = λ err.
     let as_many : c.len.result ≡ length classes = c.len.ensures ∙ c.in_ok-classes.classes.ok.0 ∙ sym (ap length c.deref.ensures.value) in
     let text : files_text (take c.len.result c.as_slice.result.now) ≡ files_text (take (length classes) c.in_ok-files.files) =
     ap (λ (n : ℕ). files_text (take n c.as_slice.result.now)) as_many ∙ ap (λ (compiled : List File). files_text (take (length classes) compiled)) c.as_slice.ensures in
-    rw (c.finished.ensures) (done_by files (g.F.Shelf.state c.args.shelf.now).there (g.F.Shelf.state c.args.shelf.now).unfailing (of_classes (source_of c.args.source.now) compile) (files_text (take c.len.result c.as_slice.result.now)) _ _ err c.print_files.result
+    rw (c.finished.ensures) (done_by files (g.F.Shelf.state c.args.shelf.now).there (g.F.Shelf.state c.args.shelf.now).unfailing (of_classes (source_of c.args.source.now) compile) (files_text (take c.len.result c.as_slice.result.now)) (g.O.Sink.state c.args.out.now) (g.O.Sink.state c.print_files.new.out) err c.print_files.result
     (subst (λ (t : List ℕ). CompilePrints files (source_of c.args.source.now) t) (sym text) (compiled_prints files (source_of c.args.source.now) classes c.in_ok-files.files (subst P (sym c.deref.ensures.value) c.in_ok-classes.ensures.loads) c.in_ok-files.ensures.makes), refl) c.print_files.ensures.put tt)

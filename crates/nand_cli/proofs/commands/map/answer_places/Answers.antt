@@ -21,13 +21,13 @@ returns-in_err-program-clause-does g c = λ err.
     let source = source_of c.args.source.now in
     let there = (g.F.Shelf.state c.args.shelf.now).there in
     let steady = (g.F.Shelf.state c.args.shelf.now).unfailing in
-    rw (p.1, p.2) (nothing_put (FolderIsPlaced files source) (BuildRefuses files source) (steady → LacksFolder files there folder) files there steady (of_classes (source_of c.args.source.now) (map_image Places)) (g.O.Sink.written c.args.out.now) err _
+    rw (p.1, p.2) (nothing_put (FolderIsPlaced files source) (BuildRefuses files source) (steady → LacksFolder files there folder) files there steady (of_classes (source_of c.args.source.now) (map_image Places)) (g.O.Sink.state c.args.out.now) err _
     (λ line k. (refl, k, refl)) (λ k s. missing files there folder (of_classes (source_of c.args.source.now) (map_image Places)) (λ told none. inl none) (k s)) c.in_err-program.ensures.loads tt)
 
 pub returns-in_err-program-clause-counts : goal.returns-in_err-program-clause-counts
 returns-in_err-program-clause-counts g c = λ err.
     let p = err_from_is_err_and c.from_residual.result c.from_residual.ensures.1 in
-    rw (p.1, p.2) (unread_counts PlacedProgram _ _ _ _ err c.in_err-program.ensures.counts)
+    rw (p.1, p.2) (unread_counts PlacedProgram _ _ _ (g.O.Sink.state c.args.out.now) err c.in_err-program.ensures.counts)
 
 pub returns-clause-does : goal.returns-clause-does
 returns-clause-does g c = λ err.
@@ -36,9 +36,9 @@ returns-clause-does g c = λ err.
     let placed = c.in_ok-program.ensures.loads in
     let have = placed.2.have in
     let here : FolderHasPlaces (g.F.Shelf.state c.args.shelf.now).files (source_of c.args.source.now) places = (placed.0, placed.1, have) in
-    rw (c.finished.ensures) (done_by (g.F.Shelf.state c.args.shelf.now).files (g.F.Shelf.state c.args.shelf.now).there (g.F.Shelf.state c.args.shelf.now).unfailing (of_classes (source_of c.args.source.now) (map_image Places)) (map_text places) _ _ err c.print_map.result
+    rw (c.finished.ensures) (done_by (g.F.Shelf.state c.args.shelf.now).files (g.F.Shelf.state c.args.shelf.now).there (g.F.Shelf.state c.args.shelf.now).unfailing (of_classes (source_of c.args.source.now) (map_image Places)) (map_text places) (g.O.Sink.state c.args.out.now) (g.O.Sink.state c.print_map.new.out) err c.print_map.result
     ((places, here, (covered have.core have.image have.is_image, rising have.core have.image have.is_image), refl), refl) c.print_map.ensures.put tt)
 
 pub returns-clause-counts : goal.returns-clause-counts
 returns-clause-counts g c = λ err.
-    rw (c.finished.ensures) (done_counts _ _ _ _ err c.print_map.result c.in_ok-program.ensures.counts c.print_map.ensures.counts)
+    rw (c.finished.ensures) (done_counts _ _ (g.O.Sink.state c.args.out.now) (g.O.Sink.state c.print_map.new.out) err c.print_map.result c.in_ok-program.ensures.counts c.print_map.ensures.put.counts)

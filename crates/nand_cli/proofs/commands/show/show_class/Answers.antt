@@ -18,19 +18,19 @@ returns-in_err-class-clause-does g c = λ err.
     let files = (g.F.Shelf.state c.args.shelf.now).files in
     let path = c.args.path.now in
     rw (p.1, p.2) (nothing_put (SpellsAt (SpellsClass []) files path) (IsFaulty RefusesClass files path) ((g.F.Shelf.state c.args.shelf.now).unfailing → LacksFile files path)
-    files (g.F.Shelf.state c.args.shelf.now).there (g.F.Shelf.state c.args.shelf.now).unfailing (of_file path (show kinds.Jack)) (g.O.Sink.written c.args.out.now) err _ (λ line k. (refl, k, refl)) (λ h. h) c.in_err-class.ensures.loads tt)
+    files (g.F.Shelf.state c.args.shelf.now).there (g.F.Shelf.state c.args.shelf.now).unfailing (of_file path (show kinds.Jack)) (g.O.Sink.state c.args.out.now) err _ (λ line k. (refl, k, refl)) (λ h. h) c.in_err-class.ensures.loads tt)
 
 pub returns-in_err-class-clause-counts : goal.returns-in_err-class-clause-counts
 returns-in_err-class-clause-counts g c = λ err.
     let p = err_from_is_err_and c.from_residual.result c.from_residual.ensures.1 in
-    rw (p.1, p.2) (unread_counts Class _ _ _ _ err c.in_err-class.ensures.counts)
+    rw (p.1, p.2) (unread_counts Class _ _ _ (g.O.Sink.state c.args.out.now) err c.in_err-class.ensures.counts)
 
 pub returns-clause-does : goal.returns-clause-does
 returns-clause-does g c = λ err.
     let source = c.in_ok-class.class in
     let loaded = c.in_ok-class.ensures.loads in
-    rw (c.finished.ensures) (done_by (g.F.Shelf.state c.args.shelf.now).files (g.F.Shelf.state c.args.shelf.now).there (g.F.Shelf.state c.args.shelf.now).unfailing (of_file c.args.path.now (show kinds.Jack)) (class_text source) _ _ err c.print.result ((the_class source, (loaded.0, loaded.1, loaded.2.0), c.printed_class_law.ensures.form source), refl) c.print.ensures.put tt)
+    rw (c.finished.ensures) (done_by (g.F.Shelf.state c.args.shelf.now).files (g.F.Shelf.state c.args.shelf.now).there (g.F.Shelf.state c.args.shelf.now).unfailing (of_file c.args.path.now (show kinds.Jack)) (class_text source) (g.O.Sink.state c.args.out.now) (g.O.Sink.state c.print.new.out) err c.print.result ((the_class source, (loaded.0, loaded.1, loaded.2.0), c.printed_class_law.ensures.form source), refl) c.print.ensures.put tt)
 
 pub returns-clause-counts : goal.returns-clause-counts
 returns-clause-counts g c = λ err.
-    rw (c.finished.ensures) (done_counts _ _ _ _ err c.print.result c.in_ok-class.ensures.counts c.print.ensures.counts)
+    rw (c.finished.ensures) (done_counts _ _ (g.O.Sink.state c.args.out.now) (g.O.Sink.state c.print.new.out) err c.print.result c.in_ok-class.ensures.counts c.print.ensures.put.counts)

@@ -17,12 +17,12 @@ returns-in_err-file-clause-does g c = λ err.
     let files = (g.F.Shelf.state c.args.shelf.now).files in
     let path = c.args.path.now in
     rw (p.1, p.2) (nothing_put (SpellsAt (SpellsVmFile true []) files path) (IsFaulty (RefusesVm true) files path) ((g.F.Shelf.state c.args.shelf.now).unfailing → LacksFile files path)
-    files (g.F.Shelf.state c.args.shelf.now).there (g.F.Shelf.state c.args.shelf.now).unfailing (of_file path (show kinds.Vm)) (g.O.Sink.written c.args.out.now) err _ (λ line k. (refl, k, refl)) (λ h. h) c.in_err-file.ensures.loads tt)
+    files (g.F.Shelf.state c.args.shelf.now).there (g.F.Shelf.state c.args.shelf.now).unfailing (of_file path (show kinds.Vm)) (g.O.Sink.state c.args.out.now) err _ (λ line k. (refl, k, refl)) (λ h. h) c.in_err-file.ensures.loads tt)
 
 pub returns-in_err-file-clause-counts : goal.returns-in_err-file-clause-counts
 returns-in_err-file-clause-counts g c = λ err.
     let p = err_from_is_err_and c.from_residual.result c.from_residual.ensures.1 in
-    rw (p.1, p.2) (unread_counts File _ _ _ _ err c.in_err-file.ensures.counts)
+    rw (p.1, p.2) (unread_counts File _ _ _ (g.O.Sink.state c.args.out.now) err c.in_err-file.ensures.counts)
 
 pub returns-clause-does : goal.returns-clause-does
 returns-clause-does g c = λ err.
@@ -32,8 +32,8 @@ returns-clause-does g c = λ err.
     let program = c.push.new.self in
     let P : List File → Type 0 = λ p. SpellsVm loaded.0 p in
     let alone = c.in_ok-push.ensures.ok ∙ ap (λ (files : List File). files ++ c.in_ok-file.file ∷ []) c.new-program.ensures in
-    rw (c.finished.ensures) (done_by files (g.F.Shelf.state c.args.shelf.now).there (g.F.Shelf.state c.args.shelf.now).unfailing (of_file path (show kinds.Vm)) (program_text program) _ _ err c.print.result ((program, (loaded.0, loaded.1, subst P (sym alone) loaded.2), refl), refl) c.print.ensures.put tt)
+    rw (c.finished.ensures) (done_by files (g.F.Shelf.state c.args.shelf.now).there (g.F.Shelf.state c.args.shelf.now).unfailing (of_file path (show kinds.Vm)) (program_text program) (g.O.Sink.state c.args.out.now) (g.O.Sink.state c.print.new.out) err c.print.result ((program, (loaded.0, loaded.1, subst P (sym alone) loaded.2), refl), refl) c.print.ensures.put tt)
 
 pub returns-clause-counts : goal.returns-clause-counts
 returns-clause-counts g c = λ err.
-    rw (c.finished.ensures) (done_counts _ _ _ _ err c.print.result c.in_ok-file.ensures.counts c.print.ensures.counts)
+    rw (c.finished.ensures) (done_counts _ _ (g.O.Sink.state c.args.out.now) (g.O.Sink.state c.print.new.out) err c.print.result c.in_ok-file.ensures.counts c.print.ensures.put.counts)

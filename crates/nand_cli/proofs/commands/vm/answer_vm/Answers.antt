@@ -18,13 +18,13 @@ returns-in_err-program-clause-does g c = λ err.
     let folder = c.args.folder.now in
     let there = (g.F.Shelf.state c.args.shelf.now).there in
     let steady = (g.F.Shelf.state c.args.shelf.now).unfailing in
-    rw (p.1, p.2) (nothing_put (HasProgram c.args.bare files folder) (VmRefuses files folder c.args.bare) (steady → LacksFolder files there folder) files there steady (vm folder c.args.bare) (g.O.Sink.written c.args.out.now) err _
+    rw (p.1, p.2) (nothing_put (HasProgram c.args.bare files folder) (VmRefuses files folder c.args.bare) (steady → LacksFolder files there folder) files there steady (vm folder c.args.bare) (g.O.Sink.state c.args.out.now) err _
     (λ line k. (refl, k, refl)) (λ h s. missing files there folder (vm folder c.args.bare) (λ told none. none) (h s)) c.in_err-program.ensures.loads tt)
 
 pub returns-in_err-program-clause-counts : goal.returns-in_err-program-clause-counts
 returns-in_err-program-clause-counts g c = λ err.
     let p = err_from_is_err_and c.from_residual.result c.from_residual.ensures.1 in
-    rw (p.1, p.2) (unread_counts (List File) _ _ _ _ err c.in_err-program.ensures.counts)
+    rw (p.1, p.2) (unread_counts (List File) _ _ _ (g.O.Sink.state c.args.out.now) err c.in_err-program.ensures.counts)
 
 pub returns-in_err-coded-clause-does : goal.returns-in_err-coded-clause-does
 returns-in_err-coded-clause-does g c = λ err.
@@ -32,14 +32,14 @@ returns-in_err-coded-clause-does g c = λ err.
     let files = (g.F.Shelf.state c.args.shelf.now).files in
     let folder = c.args.folder.now in
     let program = c.in_ok-program.program in
-    rw (p.1, p.2) (nothing_put (HasCode c.args.bare program) (IsNoCode c.args.bare folder program) ⊥ files (g.F.Shelf.state c.args.shelf.now).there (g.F.Shelf.state c.args.shelf.now).unfailing (vm folder c.args.bare) (g.O.Sink.written c.args.out.now) err _
+    rw (p.1, p.2) (nothing_put (HasCode c.args.bare program) (IsNoCode c.args.bare folder program) ⊥ files (g.F.Shelf.state c.args.shelf.now).there (g.F.Shelf.state c.args.shelf.now).unfailing (vm folder c.args.bare) (g.O.Sink.state c.args.out.now) err _
     (λ line k. (refl, without_code program c.in_ok-program.ensures.loads k, refl)) (λ h. absurd h) c.in_err-coded.ensures.codes tt)
 
 pub returns-in_err-coded-clause-counts : goal.returns-in_err-coded-clause-counts
 returns-in_err-coded-clause-counts g c = λ err.
     let p = err_from_is_err_and c.from_residual-in_err-coded.result c.from_residual-in_err-coded.ensures.1 in
     let program = c.in_ok-program.program in
-    rw (p.1, p.2) (unmade_counts (HasCode c.args.bare program) (IsNoCode c.args.bare c.args.folder.now program) _ _ _ _ err c.in_err-coded.ensures.codes c.in_ok-program.ensures.counts)
+    rw (p.1, p.2) (unmade_counts (HasCode c.args.bare program) (IsNoCode c.args.bare c.args.folder.now program) _ _ _ (g.O.Sink.state c.args.out.now) err c.in_err-coded.ensures.codes c.in_ok-program.ensures.counts)
 
 pub write_asm-requires-clause-spelled : goal.write_asm-requires-clause-spelled
 write_asm-requires-clause-spelled g c = rw c.as_slice.ensures (plain_spelled c.in_ok-coded.coded.instrs c.in_ok-coded.ensures.plain)
@@ -52,9 +52,9 @@ write_asm-requires-clause-few g c =
 pub returns-clause-does : goal.returns-clause-does
 returns-clause-does g c = λ err.
     let codes = c.in_ok-coded.ensures.codes in
-    rw (c.finished.ensures) (done_by (g.F.Shelf.state c.args.shelf.now).files (g.F.Shelf.state c.args.shelf.now).there (g.F.Shelf.state c.args.shelf.now).unfailing (vm c.args.folder.now c.args.bare) (asm_text c.as_slice.result.now) _ _ err c.write_asm.result
+    rw (c.finished.ensures) (done_by (g.F.Shelf.state c.args.shelf.now).files (g.F.Shelf.state c.args.shelf.now).there (g.F.Shelf.state c.args.shelf.now).unfailing (vm c.args.folder.now c.args.bare) (asm_text c.as_slice.result.now) (g.O.Sink.state c.args.out.now) (g.O.Sink.state c.write_asm.new.out) err c.write_asm.result
     ((c.in_ok-program.program, codes.0, c.in_ok-program.ensures.loads, codes.1, codes.3, ap asm_text (c.as_slice.ensures ∙ codes.2)), refl) c.write_asm.ensures.put tt)
 
 pub returns-clause-counts : goal.returns-clause-counts
 returns-clause-counts g c = λ err.
-    rw (c.finished.ensures) (done_counts _ _ _ _ err c.write_asm.result c.in_ok-program.ensures.counts c.write_asm.ensures.counts)
+    rw (c.finished.ensures) (done_counts _ _ (g.O.Sink.state c.args.out.now) (g.O.Sink.state c.write_asm.new.out) err c.write_asm.result c.in_ok-program.ensures.counts c.write_asm.ensures.put.counts)

@@ -21,10 +21,10 @@ returns-clause-reports g c =
     let end = c.in_ok-end.end in
     let D : ℕ → Type 0 = λ n. IsDriven code (HasFollowed old) old.moves n end (HasFollowed new) new.moves in
     rw (c.finished.ensures) (nets_put core code c.args.cycles c.requires.resolved c.requires.words old new c.requires.start.start (ap (λ (p : Image × Wiring). p.0) c.in_ok-end.ensures.program)
-    end c.at-key.result _ _ c.show_nets.result (subst D c.from-n.ensures c.in_ok-end.ensures.driven) (c.at-key.ensures ∙ ap code c.from-n.ensures) c.show_nets.ensures.put)
+    end c.at-key.result (g.O.Sink.state c.args.out.now) (g.O.Sink.state c.show_nets.new.out) c.show_nets.result (subst D c.from-n.ensures c.in_ok-end.ensures.driven) (c.at-key.ensures ∙ ap code c.from-n.ensures) c.show_nets.ensures.put)
 
 pub returns-clause-counts : goal.returns-clause-counts
-returns-clause-counts g c = rw (c.finished.ensures) (counts_by _ _ c.show_nets.result c.show_nets.ensures.counts)
+returns-clause-counts g c = rw (c.finished.ensures) (counts_by (g.O.Sink.state c.args.out.now) (g.O.Sink.state c.show_nets.new.out) c.show_nets.result c.show_nets.ensures.counts)
 
 pub returns-in_err-end-clause-put : goal.returns-in_err-end-clause-put
 returns-in_err-end-clause-put g c = let made = c.in_err-end.ensures.sure refl in absurd (let no : ⊥ = cc in no)

@@ -16,7 +16,7 @@ returns-clause-reports g c =
     let new = c.report.new.level in
     let same = ap (λ (p : Image × Wiring). p.0) c.report.ensures.program in
     reported_as (IsToldOf core code c.args.cycles c.requires.resolved c.requires.words old new c.requires.start same c.args.show)
-    (IsGatesReport core code c.args.cycles (Words c.args.show)) _ _ c.report.result
+    (IsGatesReport core code c.args.cycles (Words c.args.show)) (g.O.Sink.state c.args.out.now) (g.O.Sink.state c.report.new.out) c.report.result
     (with_words core code c.args.cycles c.requires.resolved c.requires.words old new c.requires.start same c.args.show)
     c.report.ensures.reports
 

@@ -18,7 +18,7 @@ returns-clause-reports g c =
     let old = c.args.machine.now in
     let new = c.report.new.level in
     let Q = IsReport (levels.Hack c.args.show) core code c.args.cycles in
-    reported_as (λ t. (end : End) × IsDriven code (HasFollowed old) old.hack.moves c.args.cycles end (HasFollowed new) new.hack.moves × (t ≡ hack_text new (names_of core) end c.args.show)) Q _ _ c.report.result
+    reported_as (λ t. (end : End) × IsDriven code (HasFollowed old) old.hack.moves c.args.cycles end (HasFollowed new) new.hack.moves × (t ≡ hack_text new (names_of core) end c.args.show)) Q (g.O.Sink.state c.args.out.now) (g.O.Sink.state c.report.new.out) c.report.result
     (λ text (end, driven, is). subst Q (sym is) (hack_reported c.args.cycles c.args.show core (image_in old) new code end c.requires.resolved c.requires.words c.requires.start.image c.report.ensures.program
     (cycled code old new old.hack.moves c.args.cycles _ end driven c.requires.start.stands c.requires.start.moves)))
     c.report.ensures.reports

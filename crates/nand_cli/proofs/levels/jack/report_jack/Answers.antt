@@ -22,6 +22,6 @@ returns-clause-reports g c =
     let old = c.in_ok-jack.jack in
     let new = c.report.new.level in
     let Q = IsReport (levels.Jack c.args.show) core code c.args.cycles in
-    reported_as (λ t. (end : End) × IsDriven code (Stands old) old.moves c.args.cycles end (Stands new) new.moves × (t ≡ jack_text new (names_of core) end c.args.show)) Q _ _ c.report.result
+    reported_as (λ t. (end : End) × IsDriven code (Stands old) old.moves c.args.cycles end (Stands new) new.moves × (t ≡ jack_text new (names_of core) end c.args.show)) Q (g.O.Sink.state c.args.out.now) (g.O.Sink.state c.report.new.out) c.report.result
     (λ text (end, driven, is). subst Q (sym is) (reported c.args.cycles c.args.show core new code end (c.report.ensures.program ∙ c.in_ok-jack.ensures.core) (ran code old new c.args.cycles end driven c.in_ok-jack.ensures.stands c.in_ok-jack.ensures.moves)))
     c.report.ensures.reports

@@ -18,7 +18,7 @@ returns-clause-reports g c =
     let old = c.args.vm.now in
     let new = c.report.new.level in
     let Q = IsVmReport core code c.args.cycles c.args.show in
-    reported_as (λ t. (end : End) × IsDriven code (HasTaken old) old.moves c.args.cycles end (HasTaken new) new.moves × (t ≡ vm_text new (names_of core) end c.args.show)) Q _ _ c.report.result
+    reported_as (λ t. (end : End) × IsDriven code (HasTaken old) old.moves c.args.cycles end (HasTaken new) new.moves × (t ≡ vm_text new (names_of core) end c.args.show)) Q (g.O.Sink.state c.args.out.now) (g.O.Sink.state c.report.new.out) c.report.result
     (λ text (end, by, is). subst Q (sym is) (vm_reported c.args.cycles c.args.show core new code end c.requires.resolved c.requires.words
     (subst (IsVmCodeOf core) (sym c.report.ensures.program) c.requires.start.code) (driven code old new c.args.cycles end c.requires.start.stands by)))
     c.report.ensures.reports
