@@ -40,7 +40,8 @@ pub record EachLaw : Type 0 where
   pub words : HasWords each 18717 5
   pub within : 18717 ≤ 28000
   -- Nothing of the system is left out: every subroutine is linked.
-  pub all : (g : ℕ) → 0 < g → g < length (program_with words.class words.os).subroutines → IsLinked (program_with words.class words.os) g
+  pub all : (g : ℕ) → 0 < g → g < length (program_with words.class words.os).subroutines
+      → IsLinked (program_with words.class words.os) g
 
 -- the words of a folder's own subroutines
 abbrev pub own_words : List ClassFile → List ClassFile → ℕ

@@ -56,7 +56,8 @@ pub record StaticLaws : Type 0 where
   -- the shipped texts declare them
   pub there : {core : Core} (p : IsShipped core) → HasStatics p
   -- and each has a number of its own
-  pub apart : {core : Core} (p : IsShipped core) (h : HasStatics p) → (h.free < h.font) × (h.font < h.place) × (h.place < h.right) × (h.right < h.black)
+  pub apart : {core : Core} (p : IsShipped core) (h : HasStatics p)
+      → (h.free < h.font) × (h.font < h.place) × (h.place < h.right) × (h.right < h.black)
 
 -- The next step of the state is a call of this routine with these values.
 abbrev pub CallsNext : {core : Core} → IsShipped core → List ℕ → List ℕ → State → List ℕ → Type 0
@@ -68,7 +69,8 @@ pub record Returns (subs : List Subroutine) (s : State) (n : ℕ) (s' : State) :
   pub some : 0 < n
   pub leads : (keys : ℕ → ℕ) → after subs keys n s ≡ Some s'
   pub frames : length s'.frames ≡ length s.frames
-  pub inside : (keys : ℕ → ℕ) (j : ℕ) → 0 < j → j < n → (t : State) × (after subs keys j s ≡ Some t) × (length s.frames < length t.frames)
+  pub inside : (keys : ℕ → ℕ) (j : ℕ) → 0 < j → j < n
+      → (t : State) × (after subs keys j s ≡ Some t) × (length s.frames < length t.frames)
 
 module _ {subs : List Subroutine} {s : State} {g : ℕ} {values : List ℕ} (c : NextCall subs s g values) where
   -- Within this many steps the call comes back with this value, and nothing else has changed.

@@ -35,7 +35,8 @@ IsBehind row column (k ∷ ks) row' column' = IsBehind (row_after row column) (c
 
 -- the glyphs of all codes have their place in the heap; what they show is said by HasShapes
 pub record HasFont {core : Core} {p : IsShipped core} (h : HasStatics p) (s : State) : Type 0 where
-  pub inside : (heap ≤ slice_index s.statics h.font + 3 * 32) × (slice_index s.statics h.font + 3 * 128 ≤ screen)
+  pub inside : (heap ≤ slice_index s.statics h.font + 3 * 32)
+      × (slice_index s.statics h.font + 3 * 128 ≤ screen)
   pub words : length s.words ≡ heap_and_screen_size
 
 -- the decimal of a word by its signed reading, after a minus where it is below 0

@@ -51,8 +51,10 @@ pub record HasGlyph {core : Core} {p : IsShipped core} (h : HasStatics p) (s : S
 -- still.
 pub record IsDrawn (words : List ℕ) (row column glyph : ℕ) (words' : List ℕ) : Type 0 where
   pub same_length : length words' ≡ length words
-  pub cell : (i j : ℕ) → i < 8 → j < 11 → pixel words' (8 * column + i) (11 * row + j) ≡ cell_pixel words glyph i j
-  pub others : (x y : ℕ) → x < 512 → y < 256 → (x / 8 ≢ column) ⊎ (y / 11 ≢ row) → pixel words' x y ≡ pixel words x y
+  pub cell : (i j : ℕ) → i < 8 → j < 11
+      → pixel words' (8 * column + i) (11 * row + j) ≡ cell_pixel words glyph i j
+  pub others : (x y : ℕ) → x < 512 → y < 256 → (x / 8 ≢ column) ⊎ (y / 11 ≢ row)
+      → pixel words' x y ≡ pixel words x y
   pub each : (a : ℕ) → heap ≤ a → word_at words a < 2 ^ 16 → word_at words' a < 2 ^ 16
   pub heap : (a : ℕ) → heap ≤ a → a < screen → word_at words' a ≡ word_at words a
 
@@ -121,7 +123,9 @@ module _ {core : Core} (p : IsShipped core) (s : State) where
 
 pub record PrintLaws : Type 0 where
   -- moveCursor sets the cursor
-  pub stands : {core : Core} (p : IsShipped core) (h : HasStatics p) (statics : List ℕ) (row column : ℕ) → row < 23 → column < 64 → (h.place < length statics) × (h.right < length statics)
+  pub stands : {core : Core} (p : IsShipped core)
+      (h : HasStatics p) (statics : List ℕ) (row column : ℕ) → row < 23 → column < 64
+      → (h.place < length statics) × (h.right < length statics)
       → IsCursorAt h (with_cursor h statics row column) row column
   pub print : {core : Core} (p : IsShipped core) (s : State) → PrintLaw p s
   pub line : {core : Core} (p : IsShipped core) (s : State) → LineLaw p s

@@ -20,7 +20,8 @@ pub record IsPainted (words : List ℕ) (x y colour : ℕ) (words' : List ℕ) :
   pub same_length : length words' ≡ length words
   pub others : (a : ℕ) → heap ≤ a → a ≢ pixel_address x y → word_at words' a ≡ word_at words a
   pub here : bit (word_at words' (pixel_address x y)) (x % 16) ≡ colour
-  pub beside : (k : ℕ) → k ≢ x % 16 → bit (word_at words' (pixel_address x y)) k ≡ bit (word_at words (pixel_address x y)) k
+  pub beside : (k : ℕ) → k ≢ x % 16
+      → bit (word_at words' (pixel_address x y)) k ≡ bit (word_at words (pixel_address x y)) k
   pub word : word_at words' (pixel_address x y) < 2 ^ 16
 
 module _ {core : Core} (p : IsShipped core) (s : State) where

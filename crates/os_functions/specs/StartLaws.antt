@@ -26,8 +26,12 @@ pub record IsAtMain {core : Core} (p : IsShipped core) (h : HasStatics p) (s : S
   pub init_is : init.subroutine ≡ routine_number p (codes "Sys") (codes "init")
   pub start_is : (start.subroutine ≡ 0) × (start.text ≡ Next (Do 1 Open) End)
   -- of Sys.init's statements, which have no loop, the sixth waits; then comes the call of Sys.halt
-  pub waits : init.text ≡ Next (Do 6 Open) (Next (Do 7 (Call (routine_number p (codes "Sys") (codes "halt")) NoMore)) (Next (Return 8 (Literal 0)) End))
-  pub frames : s.frames ≡ new_frame (the_subroutines core) (routine_number p (codes "Main") (codes "main")) [] ∷ init ∷ start ∷ []
+  pub waits : init.text
+      ≡ Next (Do 6 Open) (Next (Do 7 (Call (routine_number p (codes "Sys") (codes "halt")) NoMore))
+      (Next (Return 8 (Literal 0)) End))
+  pub frames : s.frames
+      ≡ new_frame (the_subroutines core) (routine_number p (codes "Main") (codes "main")) [] ∷ init
+      ∷ start ∷ []
   -- of the heap the font is in use, 288 words at the upper end; all else is one free part, of whose words but the first
   -- none is set
   pub blocks : HasHeap s h.free (heap ∷ []) (record { place = screen - 288; words = 288 } ∷ [])
@@ -41,7 +45,8 @@ pub record IsAtMain {core : Core} (p : IsShipped core) (h : HasStatics p) (s : S
   pub black : slice_index s.statics h.black ≡ truth true
   -- no other static is set
   pub statics : length s.statics ≡ statics_of (the_program core)
-  pub others : (k : ℕ) → k ≢ h.free → k ≢ h.font → k ≢ h.place → k ≢ h.right → k ≢ h.black → slice_index s.statics k ≡ 0
+  pub others : (k : ℕ) → k ≢ h.free → k ≢ h.font → k ≢ h.place → k ≢ h.right → k ≢ h.black
+      → slice_index s.statics k ≡ 0
 
 -- 1,735 steps lead to Main.main. They hear no key: over every list of keys all of these are left.
 abbrev pub StartLaw : {core : Core} → IsShipped core → Type 0

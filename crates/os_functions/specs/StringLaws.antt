@@ -75,16 +75,27 @@ abbrev pub CodeLaw : {core : Core} → IsShipped core → State → List ℕ →
 CodeLaw p s name code = (c : CallsNext p (codes "String") name s []) → Gives c 3 code
 
 pub record StringLaws : Type 0 where
-  pub size : {core : Core} (p : IsShipped core) (s : State) (o : ℕ) (text : List ℕ) (room : ℕ) → LengthLaw p s o text room
-  pub char : {core : Core} (p : IsShipped core) (s : State) (o : ℕ) (text : List ℕ) (room : ℕ) → CharLaw p s o text room
-  pub char_error : {core : Core} (p : IsShipped core) (s : State) (o : ℕ) (text : List ℕ) (room : ℕ) → CharErrorLaw p s o text room
-  pub set_char : {core : Core} (p : IsShipped core) (s : State) (o : ℕ) (text : List ℕ) (room : ℕ) → SetCharLaw p s o text room
-  pub set_char_error : {core : Core} (p : IsShipped core) (s : State) (o : ℕ) (text : List ℕ) (room : ℕ) → SetCharErrorLaw p s o text room
-  pub append : {core : Core} (p : IsShipped core) (s : State) (o : ℕ) (text : List ℕ) (room : ℕ) → AppendLaw p s o text room
-  pub append_error : {core : Core} (p : IsShipped core) (s : State) (o : ℕ) (text : List ℕ) (room : ℕ) → AppendErrorLaw p s o text room
-  pub erase : {core : Core} (p : IsShipped core) (s : State) (o : ℕ) (text : List ℕ) (room : ℕ) → EraseLaw p s o text room
-  pub erase_error : {core : Core} (p : IsShipped core) (s : State) (o : ℕ) (text : List ℕ) (room : ℕ) → EraseErrorLaw p s o text room
+  pub size : {core : Core} (p : IsShipped core) (s : State) (o : ℕ) (text : List ℕ) (room : ℕ)
+      → LengthLaw p s o text room
+  pub char : {core : Core} (p : IsShipped core) (s : State) (o : ℕ) (text : List ℕ) (room : ℕ)
+      → CharLaw p s o text room
+  pub char_error : {core : Core} (p : IsShipped core) (s : State) (o : ℕ) (text : List ℕ) (room : ℕ)
+      → CharErrorLaw p s o text room
+  pub set_char : {core : Core} (p : IsShipped core) (s : State) (o : ℕ) (text : List ℕ) (room : ℕ)
+      → SetCharLaw p s o text room
+  pub set_char_error : {core : Core} (p : IsShipped core) (s : State) (o : ℕ) (text : List ℕ)
+      (room : ℕ) → SetCharErrorLaw p s o text room
+  pub append : {core : Core} (p : IsShipped core) (s : State) (o : ℕ) (text : List ℕ) (room : ℕ)
+      → AppendLaw p s o text room
+  pub append_error : {core : Core} (p : IsShipped core) (s : State) (o : ℕ) (text : List ℕ)
+      (room : ℕ) → AppendErrorLaw p s o text room
+  pub erase : {core : Core} (p : IsShipped core) (s : State) (o : ℕ) (text : List ℕ) (room : ℕ)
+      → EraseLaw p s o text room
+  pub erase_error : {core : Core} (p : IsShipped core) (s : State) (o : ℕ) (text : List ℕ)
+      (room : ℕ) → EraseErrorLaw p s o text room
   -- the codes of the keys newline and backspace, and of the double quote
   pub new_line : {core : Core} (p : IsShipped core) (s : State) → CodeLaw p s (codes "newLine") 128
-  pub back_space : {core : Core} (p : IsShipped core) (s : State) → CodeLaw p s (codes "backSpace") 129
-  pub double_quote : {core : Core} (p : IsShipped core) (s : State) → CodeLaw p s (codes "doubleQuote") 34
+  pub back_space : {core : Core} (p : IsShipped core) (s : State)
+      → CodeLaw p s (codes "backSpace") 129
+  pub double_quote : {core : Core} (p : IsShipped core) (s : State)
+      → CodeLaw p s (codes "doubleQuote") 34

@@ -32,17 +32,20 @@ pub record ComesBack (subs : List Subroutine) (s : State) (n : ℕ) (s' : State)
   pub some : 0 < n
   pub leads : (keys : ℕ → ℕ) → after subs keys n s ≡ Some s'
   pub frames : length s'.frames ≡ length s.frames
-  pub inside : (keys : ℕ → ℕ) (j : ℕ) → 0 < j → j < n → (t : State) × (after subs keys j s ≡ Some t) × (length t.frames ≡ suc (length s.frames))
+  pub inside : (keys : ℕ → ℕ) (j : ℕ) → 0 < j → j < n
+      → (t : State) × (after subs keys j s ≡ Some t) × (length t.frames ≡ suc (length s.frames))
 
 -- n steps under these keys, at least one, lead to this state. It has this many frames, and no state between has.
 pub record Stops (subs : List Subroutine) (keys : ℕ → ℕ) (s : State) (frames n : ℕ) (s' : State) : Type 0 where
   pub some : 0 < n
   pub leads : after subs keys n s ≡ Some s'
   pub there : length s'.frames ≡ frames
-  pub before : (j : ℕ) → 0 < j → j < n → (t : State) × (after subs keys j s ≡ Some t) × (length t.frames ≢ frames)
+  pub before : (j : ℕ) → 0 < j → j < n
+      → (t : State) × (after subs keys j s ≡ Some t) × (length t.frames ≢ frames)
 
 -- Under every key, after n steps the call that was made makes one of its own, of the subroutine of this number with
 -- these values. Its frame waits, and no static and no word has changed.
 pub record ComesToCall {subs : List Subroutine} {s : State} {g : ℕ} {values : List ℕ} (c : NextCall subs s g values) (g' : ℕ) (values' : List ℕ) (n : ℕ) : Type 0 where
   pub callee : Frame
-  pub stops : (keys : ℕ → ℕ) → Stops subs keys s (suc (suc (length s.frames))) n (record s { frames = new_frame subs g' values' ∷ callee ∷ c.caller ∷ c.below })
+  pub stops : (keys : ℕ → ℕ) → Stops subs keys s (suc (suc (length s.frames))) n
+      (record s { frames = new_frame subs g' values' ∷ callee ∷ c.caller ∷ c.below })

@@ -19,7 +19,8 @@ pub record HeapNumbers : Type 0 where
 pub record StoresWell (free : ℕ) (live : List Block) (s s' : State) : Type 0 where
   pub static : slice_index s'.statics free ≡ slice_index s.statics free
   pub statics : length s'.statics ≡ length s.statics
-  pub words : (s'.words ≡ s.words) ⊎ ((a : ℕ) × (w : ℕ) × IsKept live a × (s'.words ≡ slice_set s.words (a - heap) w))
+  pub words : (s'.words ≡ s.words)
+      ⊎ ((a : ℕ) × (w : ℕ) × IsKept live a × (s'.words ≡ slice_set s.words (a - heap) w))
 
 -- Some free part has a word more than this size, whatever the free parts are.
 abbrev pub HasPart : State → ℕ → List Block → ℕ → Type 0

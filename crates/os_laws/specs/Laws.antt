@@ -46,13 +46,17 @@ FreeLaw =
 -- Division by 0, a size below 1, a size that is too great, and one for which no free part is long enough: the first
 -- call is one of Sys.error.
 pub record ErrorLaws : Type 0 where
-  pub zero : (subs : List Subroutine) (s : State) (g class error : ℕ) → subroutine_at subs g ≡ divide_meaning class error
+  pub zero : (subs : List Subroutine) (s : State) (g class error : ℕ)
+      → subroutine_at subs g ≡ divide_meaning class error
       → (c : DividingByZero subs s g) → ComesToCall c.call error (3 ∷ []) 7
-  pub size : (subs : List Subroutine) (s : State) (g class error free : ℕ) → subroutine_at subs g ≡ alloc_meaning class error free
+  pub size : (subs : List Subroutine) (s : State) (g class error free : ℕ)
+      → subroutine_at subs g ≡ alloc_meaning class error free
       → (c : AllocatingNothing subs s g) → ComesToCall c.call error (5 ∷ []) 7
-  pub great : (subs : List Subroutine) (s : State) (g size class error free : ℕ) → subroutine_at subs g ≡ alloc_meaning class error free
+  pub great : (subs : List Subroutine) (s : State) (g size class error free : ℕ)
+      → subroutine_at subs g ≡ alloc_meaning class error free
       → 14335 < size → size < 32768 → (c : NextCall subs s g (size ∷ [])) → ComesToCall c error (6 ∷ []) 11
-  pub full : (subs : List Subroutine) (s : State) (g size class error free : ℕ) → subroutine_at subs g ≡ alloc_meaning class error free
+  pub full : (subs : List Subroutine) (s : State) (g size class error free : ℕ)
+      → subroutine_at subs g ≡ alloc_meaning class error free
       → 1 ≤ size → size ≤ 14335 → (f : IsFull s free size) → (c : NextCall subs s g (size ∷ [])) → ComesToCall c error (6 ∷ []) (22 + 18 * length f.parts)
 
 -- A store into a live block's words or the screen keeps the heap.

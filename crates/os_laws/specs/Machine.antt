@@ -47,7 +47,8 @@ pub record CallsDivideByZero (j : Jack) : Type 0 where
 
 -- The product stands in the call's place, and all else is as it was; it took this many steps.
 pub record HasMultiplied (old : Jack) (n : ℕ) (new : Jack) : Type 0 where
-  pub gives : (c : CallsMultiply old) → jack_state new ≡ given_back (jack_state old) c.made.call.caller c.made.call.below (product c.made.x c.made.y)
+  pub gives : (c : CallsMultiply old) → jack_state new
+      ≡ given_back (jack_state old) c.made.call.caller c.made.call.below (product c.made.x c.made.y)
   pub steps : (c : CallsMultiply old) → n ≡ multiply_steps c.made.y
 
 -- The quotient stands in the call's place, and all else is as it was.
@@ -78,7 +79,8 @@ pub record CallsAlloc (j : Jack) : Type 0 where
 -- the same, where there is no room for the block
 pub record CallsAllocOfTooMuch (j : Jack) : Type 0 where
   pub has : HasAlloc j
-  pub made : AllocatingTooMuch (the_subroutines j.core.now) (jack_state j) (number_of has.memory) has.free
+  pub made : AllocatingTooMuch (the_subroutines j.core.now) (jack_state j)
+      (number_of has.memory) has.free
 
 -- the same, where the size is below 1
 pub record CallsAllocOfNothing (j : Jack) : Type 0 where

@@ -26,14 +26,20 @@ NamedLaw =
 -- The kernel's routines mean the texts that the laws speak of: in a class of this number, after this many statics, with
 -- this many fields.
 pub record KernelLaw : Type 0 where
-  pub multiply : (all : List tree.ClassFile) (own statics fields : ℕ) (c : tree.Class) → subroutine_meaning (standing all own statics c multiply) fields multiply ≡ multiply_meaning own
-  pub divide : (all : List tree.ClassFile) (own statics fields : ℕ) (c : tree.Class) → HasNoSys (standing all own statics c divide)
+  pub multiply : (all : List tree.ClassFile) (own statics fields : ℕ) (c : tree.Class)
+      → subroutine_meaning (standing all own statics c multiply) fields multiply
+      ≡ multiply_meaning own
+  pub divide : (all : List tree.ClassFile) (own statics fields : ℕ) (c : tree.Class)
+      → HasNoSys (standing all own statics c divide)
       → subroutine_meaning (standing all own statics c divide) fields divide ≡ divide_meaning own (error_number (standing all own statics c divide))
-  pub init : (all : List tree.ClassFile) (own statics fields free : ℕ) (c : tree.Class) → IsFree (standing all own statics c init) free
+  pub init : (all : List tree.ClassFile) (own statics fields free : ℕ) (c : tree.Class)
+      → IsFree (standing all own statics c init) free
       → subroutine_meaning (standing all own statics c init) fields init ≡ init_meaning own free
-  pub alloc : (all : List tree.ClassFile) (own statics fields free : ℕ) (c : tree.Class) → HasNoSys (standing all own statics c alloc) → IsFree (standing all own statics c alloc) free
+  pub alloc : (all : List tree.ClassFile) (own statics fields free : ℕ) (c : tree.Class)
+      → HasNoSys (standing all own statics c alloc) → IsFree (standing all own statics c alloc) free
       → subroutine_meaning (standing all own statics c alloc) fields alloc ≡ alloc_meaning own (error_number (standing all own statics c alloc)) free
-  pub deAlloc : (all : List tree.ClassFile) (own statics fields free : ℕ) (c : tree.Class) → IsFree (standing all own statics c deAlloc) free
+  pub deAlloc : (all : List tree.ClassFile) (own statics fields free : ℕ) (c : tree.Class)
+      → IsFree (standing all own statics c deAlloc) free
       → subroutine_meaning (standing all own statics c deAlloc) fields deAlloc ≡ deAlloc_meaning own free
 
 -- the numbers to which the names of the heap's routines lead
@@ -47,6 +53,8 @@ HeapRunLaw = (core : Core) (k : HasKernel core) (s : State) (live : List Block) 
 pub record ShippedLaw : Type 0 where
   -- What the resolver answers for a folder's classes and those that the code reads from the system's texts is a program
   -- with the system as it is shipped.
-  pub resolved : (core : Core) (own os : List Class) → the_program core ≡ program_meaning (map the_file own) (map the_file os) → IsWellNamed (map the_file own) (map the_file os) → AreClassesOf system os → IsShipped core
+  pub resolved : (core : Core) (own os : List Class)
+      → the_program core ≡ program_meaning (map the_file own) (map the_file os)
+      → IsWellNamed (map the_file own) (map the_file os) → AreClassesOf system os → IsShipped core
   -- Such a program has the kernel.
   pub kernel : (core : Core) → IsShipped core → HasKernel core

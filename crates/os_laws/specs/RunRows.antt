@@ -21,9 +21,11 @@ with_word s a w = record s { words = slice_set s.words (a - heap) w }
 
 pub record RunRows : Type 0 where
   -- after `do Memory.init(); let x = Memory.alloc(3);` the block is in use
-  pub uses : Uses kernel numbers (running (Next (Let 2 (Local 0) (Value 16381)) End) (2048 ∷ []) taken_memory) (three ∷ [])
+  pub uses : Uses kernel numbers
+      (running (Next (Let 2 (Local 0) (Value 16381)) End) (2048 ∷ []) taken_memory) (three ∷ [])
   -- into the last word of a block in use, and into the screen
   pub last : (s : State) → StoresWell 0 (three ∷ []) s (with_word s 16383 7)
   pub screen : (s : State) → StoresWell 0 (three ∷ []) s (with_word s 16384 7)
   -- into the word before the block, which holds its length
-  pub length : (s : State) → s.words ≡ taken_memory → StoresWell 0 (three ∷ []) s (with_word s 16380 9) → ⊥
+  pub length : (s : State) → s.words ≡ taken_memory
+      → StoresWell 0 (three ∷ []) s (with_word s 16380 9) → ⊥

@@ -75,4 +75,5 @@ pub record StepRows : Type 0 where
   pub counted : multiply_steps 5 ≡ 404
   pub three : GivesIn 597 (calls 2 (7 ∷ 2 ∷ []) [] no_words) 3
   pub least : GivesIn 593 (calls 2 (32768 ∷ 65535 ∷ []) [] no_words) 32768
-  pub by_zero : option_map (λ s. point_of s.frames) (after kernel no_key 7 (calls 2 (1 ∷ 0 ∷ []) [] no_words)) ≡ Some (6, 1)
+  pub by_zero : option_map (λ s. point_of s.frames)
+      (after kernel no_key 7 (calls 2 (1 ∷ 0 ∷ []) [] no_words)) ≡ Some (6, 1)

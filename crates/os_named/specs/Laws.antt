@@ -8,6 +8,9 @@ use Rattle.jack_os.specs.System.{AreFilesOf, system}
 
 pub record SystemNamedLaw : Type 0 where
   -- The first name fault is reported of the folder.
-  pub first : (own os : List ClassFile) (told : NameDiagnostic) → AreFilesOf system os → IsFirstFault own os told → told.shipped ≡ false
+  pub first : (own os : List ClassFile) (told : NameDiagnostic) → AreFilesOf system os
+      → IsFirstFault own os told → told.shipped ≡ false
   -- Where none is reported of the folder, names are well.
-  pub well : (own os : List ClassFile) → AreFilesOf system os → ((at : Spot) (told : NameDiagnostic) → told.shipped ≡ false → Fails own os at told → ⊥) → IsWellNamed own os
+  pub well : (own os : List ClassFile) → AreFilesOf system os
+      → ((at : Spot) (told : NameDiagnostic) → told.shipped ≡ false → Fails own os at told → ⊥)
+      → IsWellNamed own os

@@ -1,5 +1,5 @@
--- Each step of the meaning while a plain routine runs is made by commands of the virtual machine that together are at most 105 steps of the
--- computer, however deep other routines are nested and however many locals they have.
+-- Each step of the meaning while a plain routine runs is made by commands of the virtual machine. Together they are at most 105 steps of the
+-- computer. Other routines may be nested as deep, and have as many locals, as they like.
 use Rattle.std.proofs.Common.{◌≡◌, ◌⊎◌, inl, inr, ℕ, ◌+◌, ◌≤◌, true, false, ◌&&◌, ◌*◌, List, [], ◌∷◌, length, refl, sym, ap, ◌∙◌, subst, arith}
 use Rattle.std.specs.Prelude.{◌-◌, nat_le, unwrap_or, Some, None, slice_index, slice_set}
 use Rattle.std.proofs.lemmas.Bool.Decides.{nat_tests}

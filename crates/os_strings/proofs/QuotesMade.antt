@@ -19,7 +19,7 @@ use Rattle.os_functions.proofs.ArrayRuns.{with_frames}
 use Rattle.os_functions.proofs.StringMade.{append_law}
 use Rattle.os_functions.proofs.Ways.{Way, way_then, way_of_call}
 use Rattle.os_strings.specs.MakingLaws.{object_block, blocks_of, IsMade}
-use Rattle.os_strings.specs.QuoteLaws.{IsPlace, with_text, making, Quoting, sized, IsQuoted, QuoteLaws}
+use Rattle.os_strings.specs.QuoteLaws.{IsPlace, with_text, making, Quoting, sized_state, IsQuoted, QuoteLaws}
 use Rattle.os_strings.proofs.Appended.{place_kept}
 use Rattle.os_strings.proofs.Blocks.{kept_apart, stored_holds, keeps_then}
 
@@ -197,32 +197,32 @@ module _ {core : Core} (p : IsShipped core) (s : State) (place : Expression → 
   start_frame = record (q.top) { text = outer (Call new_at (one (Literal (length_word text)))) }
 
   -- the length becomes a value
-  sizes : step all 0 s ≡ Acts false (sized q)
+  sizes : step all 0 s ≡ Acts false (sized_state q)
   sizes =
       let is : length_word text ≡ length text = (let h = q.short in omega (arith, h)) in
       ap (step_frames all 0 s) q.frames
       ∙ is_outer.rewrites all 0 s start_frame q.below (Call new_at (one (Literal (length_word text)))) (Call new_at (one (Value (length_word text)))) false refl
       ∙ ap (λ (z : ℕ). Acts false (with_text s q.top q.below (outer (Call new_at (one (Value z)))) s.statics s.words)) is
 
-  to_sized : Way all (suc (length q.below)) 1 s (sized q)
+  to_sized : Way all (suc (length q.below)) 1 s (sized_state q)
   to_sized = record {
-    leads = λ keys. ap (option_and_then (after all (λ j. keys (suc j)) zero)) (next_at all s (sized q) (keys 0) sizes);
+    leads = λ keys. ap (option_and_then (after all (λ j. keys (suc j)) zero)) (next_at all s (sized_state q) (keys 0) sizes);
     each = λ keys j l. let e : 0 ≡ j = omega (arith, l) in (s, ap (λ j. after all keys j s) (sym e), (let d : length s.frames ≡ suc (length q.below) = ap length q.frames in omega (arith, d)));
   }
 
   abbrev waits : Frame
   waits = record (q.top) { text = outer Open }
 
-  new_call : CallsNext p (codes "String") (codes "new") (sized q) (length text ∷ [])
+  new_call : CallsNext p (codes "String") (codes "new") (sized_state q) (length text ∷ [])
   new_call = record {
     top = record (q.top) { text = outer (Call new_at (one (Value (length text)))) };
     caller = waits;
     below = q.below;
     frames = refl;
-    calls = is_outer.calls all 0 (sized q) (record (q.top) { text = outer (Call new_at (one (Value (length text)))) }) q.below (Call new_at (one (Value (length text)))) Open new_at (length text ∷ []) refl;
+    calls = is_outer.calls all 0 (sized_state q) (record (q.top) { text = outer (Call new_at (one (Value (length text)))) }) q.below (Call new_at (one (Value (length text)))) Open new_at (length text ∷ []) refl;
   }
 
-  module _ (h : HasStatics p) (parts : List ℕ) (live : List Block) (heap : HasHeap (sized q) h.free parts live) (k : ℕ) (fit : passed_block s.words 4 parts ≡ Some k) (n : ℕ) (s' : State) (back : Returns all (sized q) n s')
+  module _ (h : HasStatics p) (parts : List ℕ) (live : List Block) (heap : HasHeap (sized_state q) h.free parts live) (k : ℕ) (fit : passed_block s.words 4 parts ≡ Some k) (n : ℕ) (s' : State) (back : Returns all (sized_state q) n s')
       (d : IsMade (making h parts live heap k fit new_call) s') where
     abbrev room : ℕ
     room = length text
@@ -233,11 +233,11 @@ module _ {core : Core} (p : IsShipped core) (s : State) (place : Expression → 
     abbrev made : State
     made = with_text s q.top q.below (outer (Value d.place)) s'.statics s'.words
 
-    to_made : Way all under n (sized q) made
+    to_made : Way all under n (sized_state q) made
     unfolding new_call
     to_made =
         let same : s' ≡ made = ap (λ (fs : List Frame). with_frames s' fs) (d.frames ∙ ap (λ (x : Text). record (q.top) { text = x } ∷ q.below) (is_outer.fills d.place Open)) in
-        subst (λ (z : State). Way all under n (sized q) z) same (way_of_call all under n (sized q) s' (omega arith) back)
+        subst (λ (z : State). Way all under n (sized_state q) z) same (way_of_call all under n (sized_state q) s' (omega arith) back)
 
     empty : Filling p h s q.top q.below live d.place d.string.place room s'.statics [] s'.words
     empty = record {
@@ -255,7 +255,7 @@ module _ {core : Core} (p : IsShipped core) (s : State) (place : Expression → 
         let r = filled_now in
         let few = r.few in
         let end = with_text s q.top q.below (place (Value d.place)) s'.statics r.ws' in
-        let whole = way_then all under 1 (n + r.n) s (sized q) end to_sized (way_then all under n r.n (sized q) made end to_made r.way) in
+        let whole = way_then all under 1 (n + r.n) s (sized_state q) end to_sized (way_then all under n r.n (sized_state q) made end to_made r.way) in
         let deep : length s.frames ≡ suc (length q.below) = ap length q.frames in
         let held : Holds (record s { statics = s'.statics; words = r.ws' }) h.free (blocks_of d.place d.string.place room ++ live) = r.stands.heap in
         record {

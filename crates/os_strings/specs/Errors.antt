@@ -16,4 +16,5 @@ pub record ComesToError {core : Core} (p : IsShipped core) {s : State} {g : ℕ}
   pub leads : (keys : ℕ → ℕ)
       → after (the_subroutines core) keys n s
       ≡ Some (record { frames = new_frame (the_subroutines core) (routine_number p (codes "Sys") (codes "error")) (number ∷ []) ∷ (waits ++ c.caller ∷ c.below); statics = statics; words = words })
-  pub inside : (keys : ℕ → ℕ) (j : ℕ) → 0 < j → j < n → (t : State) × (after (the_subroutines core) keys j s ≡ Some t) × (length s.frames < length t.frames)
+  pub inside : (keys : ℕ → ℕ) (j : ℕ) → 0 < j → j < n → (t : State)
+      × (after (the_subroutines core) keys j s ≡ Some t) × (length s.frames < length t.frames)

@@ -16,7 +16,8 @@ pub record ReturnsUnder (subs : List Subroutine) (keys : ℕ → ℕ) (s : State
   pub some : 0 < n
   pub leads : after subs keys n s ≡ Some s'
   pub frames : length s'.frames ≡ length s.frames
-  pub inside : (j : ℕ) → 0 < j → j < n → (t : State) × (after subs keys j s ≡ Some t) × (length s.frames < length t.frames)
+  pub inside : (j : ℕ) → 0 < j → j < n
+      → (t : State) × (after subs keys j s ≡ Some t) × (length s.frames < length t.frames)
 
 -- A key k goes down and up again. At the first m looks no key is down, at the next one k is, then some key at l looks
 -- more, and then none. The call is step 0. The first look comes at step 11, and others 13 steps apart until a key is

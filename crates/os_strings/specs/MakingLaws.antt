@@ -88,8 +88,13 @@ abbrev pub DisposeLaw : {core : Core} (p : IsShipped core) (h : HasStatics p) (s
 DisposeLaw {core} p h s o text room = (d : Disposing h s o text room) → (n : ℕ) × (n ≤ 50) × (s' : State) × Returns (the_subroutines core) s n s' × Freed d.call.call h.free d.left s'
 
 pub record MakingLaws : Type 0 where
-  pub new : {core : Core} (p : IsShipped core) (h : HasStatics p) (s : State) (max : ℕ) → NewLaw p h s max
-  pub new_empty : {core : Core} (p : IsShipped core) (h : HasStatics p) (s : State) (max : ℕ) → NewEmptyLaw p h s max
-  pub new_error : {core : Core} (p : IsShipped core) (h : HasStatics p) (s : State) (max : ℕ) → NewErrorLaw p h s max
-  pub new_full : {core : Core} (p : IsShipped core) (h : HasStatics p) (s : State) (max : ℕ) → NewFullLaw p h s max
-  pub dispose : {core : Core} (p : IsShipped core) (h : HasStatics p) (s : State) (o : ℕ) (text : List ℕ) (room : ℕ) → DisposeLaw p h s o text room
+  pub new : {core : Core} (p : IsShipped core) (h : HasStatics p) (s : State) (max : ℕ)
+      → NewLaw p h s max
+  pub new_empty : {core : Core} (p : IsShipped core) (h : HasStatics p) (s : State) (max : ℕ)
+      → NewEmptyLaw p h s max
+  pub new_error : {core : Core} (p : IsShipped core) (h : HasStatics p) (s : State) (max : ℕ)
+      → NewErrorLaw p h s max
+  pub new_full : {core : Core} (p : IsShipped core) (h : HasStatics p) (s : State) (max : ℕ)
+      → NewFullLaw p h s max
+  pub dispose : {core : Core} (p : IsShipped core) (h : HasStatics p) (s : State) (o : ℕ)
+      (text : List ℕ) (room : ℕ) → DisposeLaw p h s o text room

@@ -17,9 +17,11 @@ use Rattle.os_strings.specs.MakingLaws.{Making, IsMade, blocks_of}
 
 -- A place in a text: an expression that stands there moves as it would by itself, and the text with it.
 pub record IsPlace (place : Expression → Text) : Type 0 where
-  pub rewrites : (subs : List Subroutine) (key : ℕ) (s : State) (f : Frame) (below : List Frame) (e e' : Expression) (heard : Bool)
+  pub rewrites : (subs : List Subroutine) (key : ℕ) (s : State) (f : Frame) (below : List Frame)
+      (e e' : Expression) (heard : Bool)
       → rewrite (view_of key s f) e ≡ Rewrites heard e' → step_first subs key s f below (place e) ≡ Acts heard (with_top s below (record f { text = place e' }))
-  pub calls : (subs : List Subroutine) (key : ℕ) (s : State) (f : Frame) (below : List Frame) (e e' : Expression) (g : ℕ) (xs : List ℕ)
+  pub calls : (subs : List Subroutine) (key : ℕ) (s : State) (f : Frame) (below : List Frame)
+      (e e' : Expression) (g : ℕ) (xs : List ℕ)
       → rewrite (view_of key s f) e ≡ Calls g xs e' → step_first subs key s f below (place e) ≡ Acts false (with_top s (record f { text = place e' } ∷ below) (new_frame subs g xs))
   pub fills : (w : ℕ) (e : Expression) → filled_text w (place e) ≡ place (filled w e)
 
@@ -40,13 +42,14 @@ pub record Quoting {core : Core} (p : IsShipped core) (s : State) (place : Expre
   pub is_place : IsPlace place
   pub top : Frame
   pub below : List Frame
-  pub frames : s.frames ≡ record top { text = place (quoted_from p (Literal (length_word text)) text) } ∷ below
+  pub frames : s.frames
+      ≡ record top { text = place (quoted_from p (Literal (length_word text)) text) } ∷ below
   pub short : length text < 2 ^ 15
 
 module _ {core : Core} {p : IsShipped core} {s : State} {place : Expression → Text} {text : List ℕ} (q : Quoting p s place text) where
   -- the state after one step: the length is a value
-  abbrev pub sized : State
-  sized = with_text s q.top q.below (place (quoted_from p (Value (length text)) text)) s.statics s.words
+  abbrev pub sized_state : State
+  sized_state = with_text s q.top q.below (place (quoted_from p (Value (length text)) text)) s.statics s.words
 
   -- Under every key, within this many steps a string of just this text stands at the place. These are the statics; of
   -- the words of other blocks and of the screen none has changed.
@@ -64,9 +67,9 @@ module _ {core : Core} {p : IsShipped core} {s : State} {place : Expression → 
   -- text's characters, each within 17 steps.
   abbrev pub QuoteLaw : Type 0
   QuoteLaw =
-      (c : CallsNext p (codes "String") (codes "new") sized (length text ∷ []))
-      × ((h : HasStatics p) (parts : List ℕ) (live : List Block) (heap : HasHeap sized h.free parts live) (k : ℕ) (fit : passed_block s.words 4 parts ≡ Some k) (n : ℕ) (s' : State)
-      → Returns (the_subroutines core) sized n s' → (d : IsMade (making h parts live heap k fit c) s') → IsQuoted h live d.place (1 + n + 17 * length text) s'.statics)
+      (c : CallsNext p (codes "String") (codes "new") sized_state (length text ∷ []))
+      × ((h : HasStatics p) (parts : List ℕ) (live : List Block) (heap : HasHeap sized_state h.free parts live) (k : ℕ) (fit : passed_block s.words 4 parts ≡ Some k) (n : ℕ) (s' : State)
+      → Returns (the_subroutines core) sized_state n s' → (d : IsMade (making h parts live heap k fit c) s') → IsQuoted h live d.place (1 + n + 17 * length text) s'.statics)
 
 pub record QuoteLaws : Type 0 where
   -- Three places: the one argument of a call by `do`, what `let` gives a variable (a field is none, nor is an element),
@@ -74,4 +77,5 @@ pub record QuoteLaws : Type 0 where
   pub argument : (n g : ℕ) (rest : Text) → IsPlace (λ e. Next (Do n (Call g (one e))) rest)
   pub assigned : (n : ℕ) (x : Variable) (rest : Text) → IsPlace (λ e. Next (Let n x e) rest)
   pub returned : (n : ℕ) (rest : Text) → IsPlace (λ e. Next (Return n e) rest)
-  pub quoted : {core : Core} (p : IsShipped core) (s : State) (place : Expression → Text) (text : List ℕ) (q : Quoting p s place text) → QuoteLaw q
+  pub quoted : {core : Core} (p : IsShipped core) (s : State) (place : Expression → Text)
+      (text : List ℕ) (q : Quoting p s place text) → QuoteLaw q

@@ -16,7 +16,8 @@ pub record IsRewritten (words : List ℕ) (o place : ℕ) (text : List ℕ) (roo
   pub string : StringAt words' o text room
   pub same_place : string.place ≡ place
   pub as_long : length words' ≡ length words
-  pub others : (a : ℕ) → heap ≤ a → a ≢ o + 1 → (a < place) ⊎ (place + room ≤ a) → word_at words' a ≡ word_at words a
+  pub others : (a : ℕ) → heap ≤ a → a ≢ o + 1 → (a < place) ⊎ (place + room ≤ a)
+      → word_at words' a ≡ word_at words a
 
 module _ {core : Core} (p : IsShipped core) (s : State) (o : ℕ) (text : List ℕ) (room : ℕ) where
   -- the decimal of a word by its signed reading, where there is room for it

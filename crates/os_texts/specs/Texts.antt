@@ -44,5 +44,8 @@ declaration_of v = (v.scope, type_text v.type, v.names.first.text ∷ map (λ (n
 -- In the classes that the texts spell, `Sys.init` has the tokens of this text, and Memory declares `static Array free;`
 -- and nothing else.
 pub record FixedTextsLaw : Type 0 where
-  pub sys_init : (cs : List ClassFile) → AreFilesOf system cs → (s : Subroutine) × (subroutine_in cs (codes "Sys") (codes "init") ≡ Some s) × IsTextOf s sys_init_text
-  pub free : (cs : List ClassFile) → AreFilesOf system cs → map declaration_of (variables_of (class_named cs (codes "Memory"))) ≡ (Static, codes "Array", codes "free" ∷ []) ∷ []
+  pub sys_init : (cs : List ClassFile) → AreFilesOf system cs → (s : Subroutine)
+      × (subroutine_in cs (codes "Sys") (codes "init") ≡ Some s) × IsTextOf s sys_init_text
+  pub free : (cs : List ClassFile)
+      → AreFilesOf system cs → map declaration_of (variables_of (class_named cs (codes "Memory")))
+      ≡ (Static, codes "Array", codes "free" ∷ []) ∷ []

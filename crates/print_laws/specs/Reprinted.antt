@@ -20,8 +20,11 @@ pub record IsPrintable (c : Class) : Type 0 where
 
 pub record PrintLaw : Type 0 where
   -- The printed form of such a class spells a class that is equal to it but for places.
-  pub spelled : (c : Class) → IsPrintable c → (d : Class) × SpellsClass (printed_class c) d × IsEqualButForPlaces c d
+  pub spelled : (c : Class) → IsPrintable c
+      → (d : Class) × SpellsClass (printed_class c) d × IsEqualButForPlaces c d
   -- It spells no other.
-  pub only : (c d : Class) → IsPrintable c → SpellsClass (printed_class c) d → IsEqualButForPlaces c d
+  pub only : (c d : Class) → IsPrintable c → SpellsClass (printed_class c) d
+      → IsEqualButForPlaces c d
   -- Of trees of the code the second half: a tree that the printed text of a tree spells is equal to it but for places.
-  pub tree : (c d : code.Class) → IsPrintable (the_class c) → Spells (class_text c) (whole_tree d) → IsEqualButForPlaces (the_class c) (the_class d)
+  pub tree : (c d : code.Class) → IsPrintable (the_class c) → Spells (class_text c) (whole_tree d)
+      → IsEqualButForPlaces (the_class c) (the_class d)
