@@ -24,8 +24,11 @@ use Rattle.vm_debug.specs.Program.{ArePlacesOf}
 -- of the called subroutine. Then the walk of the computer's words is the view of that state.
 pub record ShowsRun (program : Program) (linked : Linked) (places : Places) (index : ℕ → ℕ) (image : List ℕ) (map : Map) (keys : ℕ → ℕ) (n : ℕ) : Type 0 where
   pub after : Listening State
-  pub run : run_of (meaning_of program.subroutines) (start program) (heard_keys (run_trace image map keys) n) (steps (run_trace image map keys) n) ≡ Some after
-  pub shows : (f g : Frame) (below : List Frame) (sub : SubPlaces) → after.state.frames ≡ f ∷ g ∷ below → sub_at places (index f.subroutine) ≡ Some sub → Names sub (subroutine_at program.subroutines f.subroutine)
+  pub run : run_of (meaning_of program.subroutines) (start program)
+      (heard_keys (run_trace image map keys) n) (steps (run_trace image map keys) n) ≡ Some after
+  pub shows : (f g : Frame) (below : List Frame) (sub : SubPlaces)
+      → after.state.frames ≡ f ∷ g ∷ below → sub_at places (index f.subroutine) ≡ Some sub
+      → Names sub (subroutine_at program.subroutines f.subroutine)
       → AreStaticsOf program linked (subroutine_at program.subroutines f.subroutine).class (statics_of (slice_get places.classes sub.class))
       → Walk places (machine_at image keys n).memory (machine_at image keys n).pc (view_of places index program sub after.state f (g ∷ below))
 
@@ -40,8 +43,10 @@ DebuggedLaw = (program : Program) (linked : Linked) → IsLinkedProgram program 
 -- The same where the places are those of the program, which name the variables of each subroutine that they have.
 pub record ShowsProgram (program : Program) (places : Places) (image : List ℕ) (map : Map) (keys : ℕ → ℕ) (n : ℕ) : Type 0 where
   pub after : Listening State
-  pub run : run_of (meaning_of program.subroutines) (start program) (heard_keys (run_trace image map keys) n) (steps (run_trace image map keys) n) ≡ Some after
-  pub shows : (f g : Frame) (below : List Frame) (sub : SubPlaces) → after.state.frames ≡ f ∷ g ∷ below → sub_at places f.subroutine ≡ Some sub
+  pub run : run_of (meaning_of program.subroutines) (start program)
+      (heard_keys (run_trace image map keys) n) (steps (run_trace image map keys) n) ≡ Some after
+  pub shows : (f g : Frame) (below : List Frame) (sub : SubPlaces)
+      → after.state.frames ≡ f ∷ g ∷ below → sub_at places f.subroutine ≡ Some sub
       → Walk places (machine_at image keys n).memory (machine_at image keys n).pc (view_of places (λ g. g) program sub after.state f (g ∷ below))
 
 abbrev pub DebuggedProgramLaw : Type 0

@@ -302,7 +302,7 @@ fn a_report_has_its_lines(rt: HostRuntime) -> Result<(), Fail> {
 
 // Any level can be shown.
 fn show_level<L: Level, S: Sink>(level: &L, out: &mut S) -> Put
-    ensures { Puts (S.written out.old) (S.written out.new)
+    ensures { Puts (S.state out.old) (S.state out.new)
         (words_text (L.reading level.now).word false 2048 16383) result }
 {
     show_words(|a| level.word_at(a), 2048, 16383, false, out)

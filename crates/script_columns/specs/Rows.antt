@@ -24,20 +24,28 @@ truths = codes "|   1   |   1   |   1   |"
 
 -- These are lines of scripts, heads over them, and texts in their columns.
 pub record RowsLaw : Type 0 where
-  pub head : (124 ∷ []) ++ head_column narrow (codes "a") ++ head_column narrow (codes "b") ++ head_column narrow (codes "out") ≡ codes "|   a   |   b   |  out  |"
-  pub all_true : line_text (cell narrow (Narrow 1) ∷ cell narrow (Narrow 1) ∷ cell narrow (Narrow 1) ∷ []) ≡ truths
+  pub head : (124 ∷ []) ++ head_column narrow (codes "a") ++ head_column narrow (codes "b")
+      ++ head_column narrow (codes "out") ≡ codes "|   a   |   b   |  out  |"
+  pub all_true : line_text
+      (cell narrow (Narrow 1) ∷ cell narrow (Narrow 1) ∷ cell narrow (Narrow 1) ∷ []) ≡ truths
   -- a name that leaves an odd number of places has the fewer on its left
-  pub clocked : (124 ∷ []) ++ head_column (layout Text 1 4 1) (codes "time") ++ head_column (layout Decimal 1 4 1) (codes "out") ≡ codes "| time | out  |"
+  pub clocked : (124 ∷ []) ++ head_column (layout Text 1 4 1) (codes "time")
+      ++ head_column (layout Decimal 1 4 1) (codes "out") ≡ codes "| time | out  |"
   -- the time in its three formats
-  pub ticked : line_text (cell (layout Text 1 4 1) (Time 0 true) ∷ cell (layout Decimal 1 4 1) (Time 1 false) ∷ cell (layout Binary 1 4 1) (Time 12 true) ∷ []) ≡ codes "| 0+   |    1 |  12+ |"
-  pub memory : (124 ∷ []) ++ head_column (layout Decimal 2 6 2) (codes "RAM[0]") ++ head_column (layout Decimal 2 6 2) (codes "RAM[256]") ≡ codes "|  RAM[0]  | RAM[256] |"
-  pub words : line_text (cell (layout Decimal 2 6 2) (Wide 257) ∷ cell (layout Decimal 2 6 2) (Wide 15) ∷ []) ≡ codes "|     257  |      15  |"
+  pub ticked : line_text (cell (layout Text 1 4 1) (Time 0 true)
+      ∷ cell (layout Decimal 1 4 1) (Time 1 false) ∷ cell (layout Binary 1 4 1) (Time 12 true) ∷ [])
+      ≡ codes "| 0+   |    1 |  12+ |"
+  pub memory : (124 ∷ []) ++ head_column (layout Decimal 2 6 2) (codes "RAM[0]")
+      ++ head_column (layout Decimal 2 6 2) (codes "RAM[256]") ≡ codes "|  RAM[0]  | RAM[256] |"
+  pub words : line_text (cell (layout Decimal 2 6 2) (Wide 257)
+      ∷ cell (layout Decimal 2 6 2) (Wide 15) ∷ []) ≡ codes "|     257  |      15  |"
   -- a name that is too long is cut at its end, a number and a text at their fronts
   pub cut_name : head_column (layout Decimal 1 6 1) (codes "RAM16K[0]") ≡ codes "RAM16K[0|"
   pub cut_number : column_text (layout Decimal 0 2 0) (codes "12345") ≡ codes "45|"
   pub cut_text : column_text (layout Text 0 2 1) (codes "12+") ≡ codes "2+ |"
   -- sixteen digits, the highest first; of fewer places the lowest are shown
-  pub digits : line_text (cell (layout Binary 1 16 1) (Wide 60432) ∷ []) ≡ codes "| 1110110000010000 |"
+  pub digits : line_text (cell (layout Binary 1 16 1) (Wide 60432) ∷ [])
+      ≡ codes "| 1110110000010000 |"
   pub low_digits : line_text (cell (layout Binary 1 3 1) (Narrow 6) ∷ []) ≡ codes "| 110 |"
   -- sixteen bits have a sign, fewer have none
   pub signed : value_text Decimal (Wide 65535) ≡ codes "-1"

@@ -27,13 +27,18 @@ quoted_text text = 34 ∷ text ++ 34 ∷ []
 
 pub record RowsLaw : Type 0 where
   pub empty : Spells (codes " // no command") End
-  pub repeated : Spells (codes "repeat 2 { tick; } tock!") (Repeat 2 (Then (act.Step step.Tick) End) (Then (act.Step step.Tock) End))
+  pub repeated : Spells (codes "repeat 2 { tick; } tock!")
+      (Repeat 2 (Then (act.Step step.Tick) End) (Then (act.Step step.Tock) End))
   pub binary : Spells (codes "set a %B101,") (Then (act.Set (word_at 5) 5) End)
   pub negative : Spells (codes "set a -1;") (Then (act.Set (word_at 5) 65535) End)
   -- a variable alone is shown as by %B1.1.1
-  pub listed : Spells (codes "output-list a%S2.3.4 a;") (Then (act.OutputList (item_at 13 format.Text 2 3 4 ∷ item_at 22 format.Binary 1 1 1 ∷ [])) End)
-  pub echoed : Spells (codes "echo " ++ quoted_text (codes "a; //") ++ codes "!") (Then (act.Echo (codes "a; //")) End)
-  pub image : Spells (codes "ROM32K load a.hack;") (Then (act.LoadRom (record { text = codes "ROM32K"; place = at 1 }) (record { text = codes "a.hack"; place = at 13 })) End)
+  pub listed : Spells (codes "output-list a%S2.3.4 a;") (Then
+      (act.OutputList (item_at 13 format.Text 2 3 4 ∷ item_at 22 format.Binary 1 1 1 ∷ [])) End)
+  pub echoed : Spells (codes "echo " ++ quoted_text (codes "a; //") ++ codes "!")
+      (Then (act.Echo (codes "a; //")) End)
+  pub image : Spells (codes "ROM32K load a.hack;")
+      (Then (act.LoadRom (record { text = codes "ROM32K"; place = at 1 })
+      (record { text = codes "a.hack"; place = at 13 })) End)
   -- the command does not end
   pub open_act : Refuses (codes "eval") (Grammar (at 5))
   pub other_ending : Refuses (codes "load a.txt;") (Grammar (at 6))
