@@ -9,7 +9,7 @@ use Rattle.std.specs.declared.io.Error.{Error}
 use Rattle.std.specs.declared.io.ErrorKind.{ErrorKind}
 use Rattle.outer_world.specs.declared.shelf.Listing.{Listing}
 use Rattle.outer_world.specs.declared.shelf.Listing.TheVariants as listing
-use Rattle.std.specs.declared.io.ErrorKind.TheVariants.{NotFound, FilesystemLoop, OutOfMemory, InvalidFilename, FileTooLarge}
+use Rattle.std.specs.declared.io.ErrorKind.TheVariants.{NotFound, NotADirectory, FilesystemLoop, OutOfMemory, InvalidFilename, FileTooLarge}
 
 -- The name ends like that of a text which is read from a folder.
 abbrev pub ends_like_a_source : List ℕ → Bool
@@ -45,12 +45,12 @@ IsUnlisted entries kind = (kind ≡ OutOfMemory)
     ⊎ (((kind ≡ InvalidFilename) × (list_any is_refused entries ≡ true))
     ⊎ ((kind ≡ FileTooLarge) × (65536 < length (filter is_taken entries))))
 
--- The system finds nothing at a path, or a link that leads to itself.
+-- The system finds nothing at a path, what is no folder on the way, or a link that leads to itself.
 abbrev pub IsOfNoFile : ErrorKind → Type 0
-IsOfNoFile kind = (kind ≡ NotFound) ⊎ (kind ≡ FilesystemLoop)
+IsOfNoFile kind = (kind ≡ NotFound) ⊎ ((kind ≡ NotADirectory) ⊎ (kind ≡ FilesystemLoop))
 
--- What the system's answer on a path means: whether a regular file stands there. A link to nothing is no file, and any
--- other error is a fault.
+-- What the system's answer on a path means: whether a regular file stands there. Nothing at the path, no folder on the
+-- way and a link to itself are no file (`IsOfNoFile`). Any other error is a fault.
 abbrev pub MeansFile : Result Metadata Error → Result Bool Error → Type 0
 MeansFile (Ok metadata) (Ok is) = IsTrue is ↔ IsFile (file_type metadata)
 MeansFile (Ok metadata) (Err fault) = ⊥

@@ -8,7 +8,7 @@ use std::rt::Files;
 #[derive(Clone, Copy)]
 pub struct Entries<'a, R> {
     pub files: &'a R,
-    pub names: &'static [u8],
+    pub names: &'a [u8],
 }
 
 fn unsupported<X>() -> io::Result<X> {
@@ -18,13 +18,13 @@ fn unsupported<X>() -> io::Result<X> {
 impl<'a, R: Files> Files for Entries<'a, R> {
     type File = R::File;
 
-    type Dir = &'static [u8];
+    type Dir = &'a [u8];
 
     fn open_file(&self, how: &OpenOptions, path: &str) -> io::Result<R::File> {
         self.files.open_file(how, path)
     }
 
-    fn open_dir(&self, _path: &str) -> io::Result<&'static [u8]> {
+    fn open_dir(&self, _path: &str) -> io::Result<&'a [u8]> {
         Ok(self.names)
     }
 

@@ -189,13 +189,17 @@ fn put_link(
     Ok(())
 }
 
-// Makes a folder with a folder and a file in it, and with a link to nothing and one to itself.
+// Makes a folder with a folder and a file in it, and with links: to nothing, to itself, through a file, to a file and to
+// a folder.
 fn put_entries(rt: &(impl Files + AllocGlobal), alloc: Global, folder: &str) -> Result<(), Fail> {
     let inner = format!(in alloc; "{folder}/sub")?;
     fs::create_dir_all(rt, inner.as_str())?;
     put_empty(rt, alloc, folder)?;
     put_link(rt, alloc, folder, ".#Main.jack", "founder@host.1234")?;
-    put_link(rt, alloc, folder, "Circle.jack", "Circle.jack")
+    put_link(rt, alloc, folder, "Circle.jack", "Circle.jack")?;
+    put_link(rt, alloc, folder, "Through.jack", "Ball.jack/Main.jack")?;
+    put_link(rt, alloc, folder, "Linked.jack", "Ball.jack")?;
+    put_link(rt, alloc, folder, "Folder.jack", "sub")
 }
 
 // Makes a file with the 9,000 bytes of this text.
@@ -211,8 +215,9 @@ fn put_main(rt: &(impl Files + AllocGlobal + Abort), main: &str) -> Result<Strin
 
 // Paths from that folder on, and what a shelf answers to them.
 const IN_FOLDER: &[(&str, Option<u32>, &str)] = &[
-    ("", None, "Ball.jack Main.jack "),
+    ("", None, "Ball.jack Linked.jack Main.jack "),
     ("/sub", None, ""),
+    ("/Linked.jack", Some(0), "[]"),
     ("/Main.jack", None, "failed"),
     ("/Ball.jack", Some(0), "[]"),
     ("/Main.jack", Some(8999), "longer than 8999"),
@@ -244,6 +249,32 @@ const ENTRIES: &[(&[u8], &str)] = &[
     (b"Main.jack\0Caf\xe9.vm\0", "failed"),
     (b"\x80.hdl\0", "failed"),
 ];
+
+// Names of more than two blocks, of which the last alone is that of a file.
+fn many_names(alloc: Global) -> Result<Vec<u8>, AllocError> {
+    let mut names = Vec::new(alloc);
+    for _ in 0..1000u32 {
+        names.extend_from_slice(b"Gone.jack\0")?;
+    }
+    names.extend_from_slice(b"Ball.jack\0")?;
+    Ok(names)
+}
+
+fn listed_of_many(
+    rt: &(impl Files + Clone + Drop),
+    alloc: Global,
+    folder: &str,
+) -> Result<String, AllocError> {
+    let names = many_names(alloc)?;
+    let mut shelf = FolderShelf::new((
+        Entries {
+            files: rt,
+            names: names.as_slice(),
+        },
+        alloc,
+    ));
+    answer(alloc, &mut shelf, folder, None)
+}
 
 fn listed(
     rt: &(impl Files + Clone + Drop),
@@ -292,9 +323,11 @@ fn folder_is_read(
     let mut shelf = FolderShelf::new(rt.clone()?);
     let answers = answers_in(alloc, &mut shelf, folder)?;
     let listings = listed(rt, alloc, folder)?;
+    let of_many = listed_of_many(rt, alloc, folder)?;
     let whole = shelf.read(alloc, main.as_str(), 9000);
     fs::remove_dir_all(rt, folder)?;
     answers_are(rt, &answers, &listings);
+    is_told(rt, "many names", of_many.as_str(), "Ball.jack ");
     is_read(rt, &whole, text.as_bytes());
     Ok(())
 }

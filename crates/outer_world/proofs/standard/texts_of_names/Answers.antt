@@ -34,7 +34,7 @@ loop-entry-preserved c =
     c.split-entry-items.ensures.rest c.split-entry-items.ensures.done c.split-entry-items.ensures.closure (λ x b q k. search (rules, tests)) _ _ c.in-Some.entry c.in-Some.is c.next.ensures.steps in
     let taken = rw c.in-Some-2.is at c.in_ok-name.ensures.taken in
     let room : length c.loop-entry.names.items ≢ 65536 = omega (arith, c.loop-entry.names.ok.0) in
-    let pushed : c.push.new.self.items ≡ c.loop-entry.names.items ++ c.in-Some.entry.now ∷ [] = first_of (cc (taken.1), search (rules, taken.1), grind (arith, taken.1)) in
+    let pushed : c.push.new.self.items ≡ c.loop-entry.names.items ++ c.in-Some.entry.now ∷ [] = search (rules, taken.1) in
     subst (λ n. AreReadTo (entries_of c.args.entries.now) c.push.new.self.items n) (sym (length_push c.loop-entry.yielded c.in-Some.entry))
     (subst (λ names. AreReadTo (entries_of c.args.entries.now) names (length c.loop-entry.yielded + 1)) (sym pushed)
     (one_more (entries_of c.args.entries.now) c.loop-entry.names.items (length c.loop-entry.yielded) c.in-Some.entry.now c.loop-entry.invariant turn.0 turn.1 c.in_ok-name.ensures.refused taken.0 room))
