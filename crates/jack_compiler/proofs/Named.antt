@@ -70,8 +70,8 @@ module _ (around : Around) where
       let here = put_named p es le later.1 in
       ((here.0, later.0), here.1)
 
-  pub parts_named : (e : TheExpression) → Names around (the_expression e) → NamesParts around e.parts.items
-  parts_named e h = (built_named 1 [] e.parts.items e.one (subst All (sym (spells [] e)) (h, tt))).0
+  pub parts_named : (e : TheExpression) → Names around (the_expression e) → NamesParts around e.parts
+  parts_named e h = (built_named 1 [] e.parts e.one (subst All (sym (spells [] e)) (h, tt))).0
 
   part_at : (ps : List Part) (i : ℕ) (d : Part) → i < length ps → NamesParts around ps → NamesPart around (get_or ps i d)
   part_at [] i d b h = absurd (omega arith)

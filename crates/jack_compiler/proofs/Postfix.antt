@@ -86,5 +86,5 @@ module _ (around : Around) (n : ℕ) where
       ∙ append_assoc (stack_lines es) (part_lines around n p) (parts_lines around n ps)
 
   -- the parts of an expression have its lines
-  pub spelled_lines : (e : Expression) → parts_lines around n e.parts.items ≡ expression_lines around n (the_expression e)
-  spelled_lines e = sym (built_lines 1 [] e.parts.items e.one) ∙ ap stack_lines (spells [] e)
+  pub spelled_lines : (e : Expression) → parts_lines around n e.parts ≡ expression_lines around n (the_expression e)
+  spelled_lines e = sym (built_lines 1 [] e.parts e.one) ∙ ap stack_lines (spells [] e)

@@ -83,8 +83,8 @@ built_calls k es (p ∷ ps) e =
     ∙ ap (λ z. z ++ parts_calls ps) (put_calls p es le)
     ∙ append_assoc (stack_calls es) (part_calls p) (parts_calls ps)
 
-pub spelled_calls : (e : Expression) → parts_calls e.parts.items ≡ calls (the_expression e)
-spelled_calls e = sym (built_calls 1 [] e.parts.items e.one) ∙ ap stack_calls (spells [] e)
+pub spelled_calls : (e : Expression) → parts_calls e.parts ≡ calls (the_expression e)
+spelled_calls e = sym (built_calls 1 [] e.parts e.one) ∙ ap stack_calls (spells [] e)
 
 -- a part that is no call
 pub no_call : (p : Part) → ((n g : ℕ) → p ≡ part.Call n g → ⊥) → part_calls p ≡ []

@@ -142,7 +142,7 @@ pub(crate) fn add_expression(
     ensures { OnOk result (lines.new
         ≡ lines.old ++ expression_lines (the_around around.now) statement (the_expression e.now)) }
 {
-    for part in &e.parts {
+    for part in e.parts.as_slice() {
         add_part(lines, around, statement, *part)?;
     }
     Ok(())

@@ -45,7 +45,7 @@ fn mark_part(search: &mut Search, part: Part) -> Result<(), AllocError>
 fn mark_expression(search: &mut Search, e: &Expression) -> Result<(), AllocError>
     ensures { OnOk result (Visits (calls (the_expression e.now)) search.old search.new) }
 {
-    for part in &e.parts {
+    for part in e.parts.as_slice() {
         mark_part(search, *part)?;
     }
     Ok(())

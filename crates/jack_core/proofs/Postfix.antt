@@ -79,9 +79,9 @@ only (x ∷ []) e = refl
 only (x ∷ y ∷ es) e = absurd (two x y es e)
 
 -- the parts of an expression, after others, add that one
-pub spells : (low : List AnExpression) (e : Expression) → build_expressions low e.parts.items ≡ the_expression e ∷ low
+pub spells : (low : List AnExpression) (e : Expression) → build_expressions low e.parts ≡ the_expression e ∷ low
 spells low e =
-    built_over 1 [] low e.parts.items e.one ∙ ap (λ xs. xs ++ low) (only (build_expressions [] e.parts.items) (built_length 1 [] e.parts.items e.one))
+    built_over 1 [] low e.parts e.one ∙ ap (λ xs. xs ++ low) (only (build_expressions [] e.parts) (built_length 1 [] e.parts e.one))
 
 raised : (l h : ℕ) (ps : List Part) (k : ℕ) → height l ps ≡ Some k → height (h + l) ps ≡ Some (h + k)
 raised l h [] k e = ap (λ x. Some (h + x)) (some_is e)

@@ -1,3 +1,4 @@
 pub mod Heights
 pub mod Reading
 pub mod Texts
+pub mod Inner

@@ -63,4 +63,4 @@ build_expressions es (p ∷ ps) = build_expressions (put p es) ps
 
 -- the expression that parts in postfix order spell
 abbrev pub the_expression : Expression → AnExpression
-the_expression e = operand 0 (build_expressions [] e.parts.items)
+the_expression e = operand 0 (build_expressions [] e.parts)

@@ -57,6 +57,9 @@ pub enum Statement {
     },
 }
 
+// All statements of a folder stand at once.
+const _: () = prove!(size_of::<Statement>() == 80);
+
 impl Statement {
     /// Its number.
     pub fn number(&self) -> u32

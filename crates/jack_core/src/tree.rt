@@ -3,6 +3,8 @@
 ghost use Rattle.std.specs.Prelude.{◌≡◌, Some};
 ghost use Rattle.jack_core.specs.Heights.{height};
 
+use crate::parts::Parts;
+
 /// A variable, by its number among those of its kind. A method's object is argument 0; the statics are numbered
 /// through all classes.
 #[derive(Clone, Copy, PartialEq, Eq, Debug)]
@@ -63,7 +65,7 @@ const _: () = prove!(size_of::<Part>() == 8);
 /// flat as it is long, however it is nested in the text.
 #[derive(Drop)]
 pub struct Expression {
-    pub parts: Vec<Part>,
+    pub parts: Parts,
     // Each part finds its operands, and one value is left.
-    pub ghost one: { height 0 parts.items ≡ Some 1 },
+    pub ghost one: { height 0 parts ≡ Some 1 },
 }

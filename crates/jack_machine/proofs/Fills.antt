@@ -77,7 +77,7 @@ module _ (w : ℕ) where
   all_waiting (x ∷ ws) = ap (λ l. Value w ∷ l) (all_values ws)
 
   expression_filled : (e : ExpressionTree) → filled w (the_expression e) ≡ the_expression e
-  expression_filled e = operand_filled 0 (build_expressions [] e.parts.items) ∙ ap (operand 0) (built_filled [] e.parts.items)
+  expression_filled e = operand_filled 0 (build_expressions [] e.parts) ∙ ap (operand 0) (built_filled [] e.parts)
 
   -- no call of the program's text is open
   statement_filled : (s : Statement) → filled_first w (the_statement s) ≡ the_statement s

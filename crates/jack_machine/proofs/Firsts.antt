@@ -20,10 +20,10 @@ use Rattle.jack_machine.proofs.Places.{is_move, IsPlace, Lies, lies_first, lies_
 use Rattle.jack_machine.proofs.Fitting.{none_stand}
 
 -- a store as its three expressions stand in the text
-store_reads : (n : ℕ) (a i e : ExpressionTree) → build_expressions [] (a.parts.items ++ i.parts.items ++ e.parts.items) ≡ the_expression e ∷ the_expression i ∷ the_expression a ∷ []
+store_reads : (n : ℕ) (a i e : ExpressionTree) → build_expressions [] (a.parts ++ i.parts ++ e.parts) ≡ the_expression e ∷ the_expression i ∷ the_expression a ∷ []
 store_reads n a i e =
-    built_more [] (a.parts.items ++ i.parts.items) e.parts.items
-    ∙ ap (λ l. build_expressions l e.parts.items) (built_more [] a.parts.items i.parts.items ∙ ap (λ l. build_expressions l i.parts.items) (spells [] a) ∙ spells (the_expression a ∷ []) i)
+    built_more [] (a.parts ++ i.parts) e.parts
+    ∙ ap (λ l. build_expressions l e.parts) (built_more [] a.parts i.parts ∙ ap (λ l. build_expressions l i.parts) (spells [] a) ∙ spells (the_expression a ∷ []) i)
     ∙ spells (the_expression i ∷ the_expression a ∷ []) e
 
 module _ (subs : List Subroutine) (key : ℕ) (s : State) (f : Frame) (below : List Frame) (rest : Text) where

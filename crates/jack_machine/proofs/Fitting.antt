@@ -17,10 +17,10 @@ use Rattle.jack_machine.specs.declared.fronts.Front.{Front}
 use Rattle.jack_machine.proofs.Lists.{map-reverse, drop_found, drop_none}
 
 -- the parts of a statement of which nothing is done leave what it wants
-three : (a i e : Expression) → height 0 (a.parts.items ++ i.parts.items ++ e.parts.items) ≡ Some 3
+three : (a i e : Expression) → height 0 (a.parts ++ i.parts ++ e.parts) ≡ Some 3
 three a i e =
-    let both : height 0 (a.parts.items ++ i.parts.items) ≡ Some 2 = height_more 0 1 a.parts.items i.parts.items a.one ∙ height_over 1 1 i.parts.items i.one in
-    height_more 0 2 (a.parts.items ++ i.parts.items) e.parts.items both ∙ height_over 2 1 e.parts.items e.one
+    let both : height 0 (a.parts ++ i.parts) ≡ Some 2 = height_more 0 1 a.parts i.parts a.one ∙ height_over 1 1 i.parts i.one in
+    height_more 0 2 (a.parts ++ i.parts) e.parts both ∙ height_over 2 1 e.parts e.one
 
 statement_fits : (s : Statement) → height 0 (parts_in s) ≡ Some (wanted_in s)
 statement_fits (Statement.Let n x e) = e.one

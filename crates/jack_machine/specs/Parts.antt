@@ -7,14 +7,14 @@ use Rattle.jack_machine.specs.declared.fronts.First.{First}
 
 -- the parts of a statement's expressions, one after the other: those of a store are base, index and value
 abbrev pub parts_in : Statement → List Part
-parts_in (Statement.Let n x e) = e.parts.items
-parts_in (Statement.LetField n k e) = e.parts.items
-parts_in (Statement.LetThis n e) = e.parts.items
-parts_in (Statement.Store n a i e) = a.parts.items ++ i.parts.items ++ e.parts.items
-parts_in (Statement.Do n e) = e.parts.items
-parts_in (If' n o c p a q b) = c.parts.items
-parts_in (While' n c p s) = c.parts.items
-parts_in (Statement.Return n e) = e.parts.items
+parts_in (Statement.Let n x e) = e.parts
+parts_in (Statement.LetField n k e) = e.parts
+parts_in (Statement.LetThis n e) = e.parts
+parts_in (Statement.Store n a i e) = a.parts ++ i.parts ++ e.parts
+parts_in (Statement.Do n e) = e.parts
+parts_in (If' n o c p a q b) = c.parts
+parts_in (While' n c p s) = c.parts
+parts_in (Statement.Return n e) = e.parts
 
 -- how many expressions a statement has
 abbrev pub wanted_in : Statement → ℕ

@@ -28,9 +28,9 @@ pub(crate) fn operands(part: Part) -> u16
 }
 
 fn part_in(e: &Expression, k: usize) -> Option<Part>
-    ensures { result ≡ slice_get e.now.parts.items k }
+    ensures { result ≡ slice_get e.now.parts k }
 {
-    e.parts.get(k).copied()
+    e.parts.get(k)
 }
 
 // The same of three expressions, one after the other.
@@ -41,7 +41,7 @@ fn part_in_store(
     k: usize,
 ) -> Option<Part>
     ensures { result
-        ≡ slice_get (base.now.parts.items ++ index.now.parts.items ++ value.now.parts.items) k }
+        ≡ slice_get (base.now.parts ++ index.now.parts ++ value.now.parts) k }
 {
     if k < base.parts.len() {
         return part_in(base, k);

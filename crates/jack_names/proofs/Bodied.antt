@@ -24,8 +24,8 @@ use Rattle.jack_names.proofs.Composed.{Single, literal, call_made, one_made, var
 abbrev pub IsThere : meaning.Expression → Type 0
 IsThere x = (e : Expression) × (the_expression e ≡ x)
 
-pub there : (x : meaning.Expression) (n : ℕ) → n < 2 ^ 62 → Single x n → IsThere x
-there x n small a = (record { parts = held a.parts (omega (arith, small, a.few)); one = a.high 0 }, ap (operand 0) (a.built []))
+pub there : (x : meaning.Expression) (n : ℕ) → Single x n → IsThere x
+there x n a = (record { parts = a.parts; one = a.high 0 }, ap (operand 0) (a.built []))
 
 -- a statement of the code that is this one
 abbrev pub HasStatement : meaning.Statement → Type 0
@@ -41,12 +41,12 @@ let_made : (o : Option Declared) (n : ℕ) (x : meaning.Expression) → IsThere 
 let_made None n x e = (Statement.Let n (Variable.Local 0) e.0, ap (meaning.Let n (meaning.Local 0)) e.1)
 let_made (Some v) n x e = assigned v.slot n x e
 
-stored : (s : Standing) (n : ℕ) (x : tree.Name) (i : Option tree.Expression) (e : tree.Expression) → value_length i + expression_length e < 2 ^ 62 → HasStatement (plain.let_meaning s n x i e)
-stored s n x None e small = let_made (s.variable x.text) n _ (there _ (expression_length e) (omega (arith, small)) (expression_made s e))
-stored s n x (Some i) e small =
-    let base = there _ 1 (omega arith) (variable_made (s.variable x.text)) in
-    let index = there _ (expression_length i) (omega (arith, small)) (expression_made s i) in
-    let value = there _ (expression_length e) (omega (arith, small)) (expression_made s e) in
+stored : (s : Standing) (n : ℕ) (x : tree.Name) (i : Option tree.Expression) (e : tree.Expression) → HasStatement (plain.let_meaning s n x i e)
+stored s n x None e = let_made (s.variable x.text) n _ (there _ (expression_length e) (expression_made s e))
+stored s n x (Some i) e =
+    let base = there _ 1 (variable_made (s.variable x.text)) in
+    let index = there _ (expression_length i) (expression_made s i) in
+    let value = there _ (expression_length e) (expression_made s e) in
     (Statement.Store n base.0 index.0 value.0, λ j. meaning.Store n (base.1 j) (index.1 j) (value.1 j))
 
 -- statements of the code that are these, of which there are at most this many
@@ -72,16 +72,16 @@ none = record { all = []; is = refl; few = omega arith }
 
 mutual
   statement_made : (s : Standing) (n : ℕ) (t : tree.Statement) → statement_length t < 2 ^ 62 → HasStatement (plain.statement_meaning s n t)
-  statement_made s n (tree.Let at x i e) small = stored s n x i e small
+  statement_made s n (tree.Let at x i e) small = stored s n x i e
   statement_made s n (tree.If at e a) small =
-      if_made n _ (there _ (expression_length e) (omega (arith, small)) (expression_made s e)) false _ _ (statements_length a) 0 (omega (arith, small)) (omega arith) (statements_made s (n + 1) a (omega (arith, small))) none
+      if_made n _ (there _ (expression_length e) (expression_made s e)) false _ _ (statements_length a) 0 (omega (arith, small)) (omega arith) (statements_made s (n + 1) a (omega (arith, small))) none
   statement_made s n (tree.IfElse at e a b) small =
-      if_made n _ (there _ (expression_length e) (omega (arith, small)) (expression_made s e)) true _ _ (statements_length a) (statements_length b) (omega (arith, small)) (omega (arith, small))
+      if_made n _ (there _ (expression_length e) (expression_made s e)) true _ _ (statements_length a) (statements_length b) (omega (arith, small)) (omega (arith, small))
       (statements_made s (n + 1) a (omega (arith, small))) (statements_made s (n + 1 + plain.sizes a) b (omega (arith, small)))
   statement_made s n (tree.While at e a) small =
-      while_made n _ (there _ (expression_length e) (omega (arith, small)) (expression_made s e)) _ (statements_length a) (omega (arith, small)) (statements_made s (n + 1) a (omega (arith, small)))
-  statement_made s n (tree.Do at c) small = let e = there _ (call_length c) small (callee_made s c) in (Statement.Do n e.0, ap (meaning.Do n) e.1)
-  statement_made s n (tree.Return at v) small = let e = there _ (value_length v) small (value_made s v) in (Statement.Return n e.0, ap (meaning.Return n) e.1)
+      while_made n _ (there _ (expression_length e) (expression_made s e)) _ (statements_length a) (omega (arith, small)) (statements_made s (n + 1) a (omega (arith, small)))
+  statement_made s n (tree.Do at c) small = let e = there _ (call_length c) (callee_made s c) in (Statement.Do n e.0, ap (meaning.Do n) e.1)
+  statement_made s n (tree.Return at v) small = let e = there _ (value_length v) (value_made s v) in (Statement.Return n e.0, ap (meaning.Return n) e.1)
 
   pub statements_made : (s : Standing) (n : ℕ) (ts : tree.Statements) → statements_length ts < 2 ^ 62 → HasStatements (plain.block_meaning s n ts) (statements_length ts)
   statements_made s n tree.End small = none
@@ -98,11 +98,11 @@ joined (x ∷ xs) ys = ap (meaning.Next (the_statement x)) (joined xs ys)
 
 back : (b : Bool) (n : ℕ) → HasStatements (plain.return_added b n) 1
 back true n = record { all = []; is = refl; few = omega arith }
-back false n = let e = there _ 1 (omega arith) (literal 0) in record { all = Statement.Return n e.0 ∷ []; is = ap (λ (x : meaning.Expression). meaning.Next (meaning.Return n x) meaning.End) e.1; few = omega arith }
+back false n = let e = there _ 1 (literal 0) in record { all = Statement.Return n e.0 ∷ []; is = ap (λ (x : meaning.Expression). meaning.Next (meaning.Return n x) meaning.End) e.1; few = omega arith }
 
 begun : (s : Standing) (f : tree.Form) (fields : ℕ) (x : meaning.Text) (n : ℕ) → HasStatements x n → HasStatements (plain.begin_text s f fields x) (1 + n)
 begun s tree.Constructor fields x n h =
-    let e = there _ 2 (omega arith) (call_made (plain.made_word s (codes "Memory") (codes "alloc")) _ 1 (one_made _ 1 (literal (max 1 fields)))) in
+    let e = there _ 2 (call_made (plain.made_word s (codes "Memory") (codes "alloc")) _ 1 (one_made _ 1 (literal (max 1 fields)))) in
     record { all = Statement.LetThis 0 e.0 ∷ h.all; is = λ i. meaning.Next (meaning.LetThis 0 (e.1 i)) (h.is i); few = omega (arith, h.few) }
 begun s tree.Function fields x n h = record { all = h.all; is = h.is; few = omega (arith, h.few) }
 begun s tree.Method fields x n h = record { all = h.all; is = h.is; few = omega (arith, h.few) }

@@ -35,7 +35,7 @@ pub means : (e : meaning.Expression) (ps : List Part) → Leaves (e ∷ []) ps �
 means e ps s = ap (operand 0) s.built_is
 
 -- a call of one argument
-pub called_one : (a : Expression) (g : ℕ) (new : List Part) → Puts (part.Call 1 g) a.parts.items new → Leaves (meaning.Call g (one (the_expression a)) ∷ []) new
+pub called_one : (a : Expression) (g : ℕ) (new : List Part) → Puts (part.Call 1 g) a.parts new → Leaves (meaning.Call g (one (the_expression a)) ∷ []) new
 called_one a g new p = p (the_expression a ∷ []) (omega arith) (record { built_is = spells [] a; height_is = a.one })
 
 -- one turn after another, and another way to say a turn

@@ -3,7 +3,7 @@ use Rattle.std.specs.Prelude.{◌≡◌, ◌<◌, ◌⊎◌, ℕ, suc, Bool, tru
 use Rattle.scan_text.specs.declared.Place.{Place}
 use Rattle.jack_tree.specs.Syntax as tree
 use Rattle.jack_names.specs.Faults.{NameDiagnostic, kind_number}
-use Rattle.jack_names.specs.Using.{members, inner, Use, OfVariable, OfFront, OfCall, OfThis, OfString, OfMade, Body, File, files, classes}
+use Rattle.jack_names.specs.Using.{members, inner, Use, OfVariable, OfFront, OfCall, OfThis, OfString, OfMade, Body, File, files}
 use Rattle.jack_names.specs.NameFaults.{names, Spot, Fails}
 use Rattle.jack_names.specs.declared.fault.NameKind.{NameKind}
 use Rattle.jack_names.specs.declared.fault.NameKind.TheVariants as kinds

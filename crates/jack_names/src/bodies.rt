@@ -99,7 +99,7 @@ fn statement_meant<'a>(
             Ok((text, number + 1))
         }
         Statement::If(_, condition, holds, fails) => {
-            if_meant(alloc, scope, number, condition, holds, fails)
+            if_meant(alloc, scope, number, condition.get(), holds, fails)
         }
         Statement::While(_, condition, body) => {
             while_meant(alloc, scope, number, condition, body)

@@ -152,7 +152,7 @@ fn check_constant(alloc: Global, scope: &Scope, constant: &Constant) -> Result<(
     ensures { Checks (first_fault (the_scope scope.now) (constant_uses constant.now)) result }
 {
     match constant {
-        Constant::Text(text) => check_string(alloc, scope, text),
+        Constant::Text(text) => check_string(alloc, scope, text.get()),
         Constant::This(place) => check_this(alloc, scope, *place),
         _ => Ok(()),
     }
@@ -182,7 +182,7 @@ fn check_term<'a>(alloc: Global, scope: &Scope<'a, '_>, term: &'a Term) -> Resul
         Term::Constant(constant) => check_constant(alloc, scope, constant),
         Term::Variable(name) => check_variable(alloc, scope, name),
         Term::Element(name, index) => {
-            check_variable(alloc, scope, name)?;
+            check_variable(alloc, scope, name.get())?;
             check_expression(alloc, scope, index)
         }
         Term::Call(call) => check_whole_call(alloc, scope, call),
@@ -297,7 +297,7 @@ fn check_statement<'a>(
             check_expression(alloc, scope, value)
         }
         Statement::If(_, condition, holds, fails) => {
-            check_expression(alloc, scope, condition)?;
+            check_expression(alloc, scope, condition.get())?;
             check_statements(alloc, scope, holds)?;
             match fails {
                 None => Ok(()),

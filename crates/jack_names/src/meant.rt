@@ -11,7 +11,9 @@ ghost use Rattle.jack_names.specs.Inner.Scoped.{the_scope};
 
 use crate::kinds::callee;
 use crate::scope::{Callee, Declared, Scope, Signature, Slot};
-use jack_core::{Expression as CoreExpression, Operator as CoreOperator, Part, Sign as CoreSign};
+use jack_core::{
+    Expression as CoreExpression, Operator as CoreOperator, Part, Parts, Sign as CoreSign,
+};
 use jack_tree::{Call, Constant, Expression, Name, Operation, Operator, Sign, Term};
 use std::alloc::{AllocError, Global};
 
@@ -162,7 +164,7 @@ fn push_constant(
 {
     match constant {
         Constant::Integer(n) => push_value(parts, Part::Literal(*n)),
-        Constant::Text(text) => push_string(parts, scope, text.text.as_bytes()),
+        Constant::Text(text) => push_string(parts, scope, text.get().text.as_bytes()),
         Constant::True => push_value(parts, Part::Literal(65535)),
         Constant::False | Constant::Null => push_value(parts, Part::Literal(0)),
         Constant::This(_) => push_value(parts, Part::This),
@@ -225,7 +227,7 @@ fn push_term<'a>(
         Term::Constant(constant) => push_constant(parts, scope, constant),
         Term::Variable(name) => push_value(parts, variable_part(scope, name)),
         Term::Element(name, index) => {
-            push_value(parts, variable_part(scope, name))?;
+            push_value(parts, variable_part(scope, name.get()))?;
             push_expression(parts, scope, index)?;
             push_part(parts, Part::Load)
         }
@@ -336,8 +338,8 @@ pub(crate) fn expression_meant<'a>(
     // A part for each term and each operator. Terms of more parts make room for them.
     let mut parts = Vec::with_capacity(alloc, e.rest.len().saturating_mul(2).saturating_add(1))?;
     push_expression(&mut parts, scope, e)?;
-    parts.shrink_to_fit();
-    Ok(CoreExpression { parts })
+    let kept = Parts::new(alloc, parts)?;
+    Ok(CoreExpression { parts: kept })
 }
 
 pub(crate) fn call_meant<'a>(
@@ -349,8 +351,8 @@ pub(crate) fn call_meant<'a>(
 {
     let mut parts = Vec::with_capacity(alloc, call.arguments.len().saturating_add(2))?;
     push_call(&mut parts, scope, call)?;
-    parts.shrink_to_fit();
-    Ok(CoreExpression { parts })
+    let kept = Parts::new(alloc, parts)?;
+    Ok(CoreExpression { parts: kept })
 }
 
 // An expression of one part.
@@ -360,7 +362,8 @@ fn single(alloc: Global, part: Part) -> Result<CoreExpression, AllocError>
 {
     let mut parts = Vec::with_capacity(alloc, 1)?;
     push_value(&mut parts, part)?;
-    Ok(CoreExpression { parts })
+    let kept = Parts::new(alloc, parts)?;
+    Ok(CoreExpression { parts: kept })
 }
 
 pub(crate) fn literal(alloc: Global, n: u16) -> Result<CoreExpression, AllocError>
@@ -380,10 +383,15 @@ pub(crate) fn variable_meant<'a>(
 }
 
 /// A call with one argument.
-pub(crate) fn call_one(number: u32, argument: CoreExpression) -> Result<CoreExpression, AllocError>
-    ensures { IfOk result (λ r. the_expression r ≡ CallOf number (one (the_expression argument))) }
+pub(crate) fn call_one(
+    alloc: Global,
+    number: u32,
+    argument: &CoreExpression,
+) -> Result<CoreExpression, AllocError>
+    ensures { IfOk result
+        (λ r. the_expression r ≡ CallOf number (one (the_expression argument.now))) }
 {
-    let mut parts = argument.parts;
+    let mut parts = Vec::from_slice(alloc, argument.parts.as_slice())?;
     push_part(
         &mut parts,
         Part::Call {
@@ -391,7 +399,8 @@ pub(crate) fn call_one(number: u32, argument: CoreExpression) -> Result<CoreExpr
             number,
         },
     )?;
-    Ok(CoreExpression { parts })
+    let kept = Parts::new(alloc, parts)?;
+    Ok(CoreExpression { parts: kept })
 }
 
 /// The value of a `return`.

@@ -162,21 +162,25 @@ fn started(alloc: Global) -> Result<Vec<CoreSubroutine>, AllocError>
     Ok(vec![in alloc; start]?)
 }
 
-fn class_meant(class: &Class) -> Result<CoreClass, AllocError>
+fn class_meant(alloc: Global, class: &Class) -> Result<CoreClass, AllocError>
     requires fields { fields_of class.now.variables.items ≤ 16384 }
     requires statics { statics_of class.now.variables.items ≤ 2 ^ 31 }
     ensures means { IfOk result (λ r. the_class r ≡ class_meant class.now) }
     ensures name { IfOk result (λ r. the_class_name r ≡ class.now.name.text) }
 {
     Ok(CoreClass {
-        name: class.name.text.clone()?,
+        name: class.name.text.name(alloc)?,
         fields: fields_of(&class.variables),
         statics: statics_of(&class.variables),
     })
 }
 
 // The classes, after these.
-fn push_classes(classes: &mut Vec<CoreClass>, trees: &[Class]) -> Result<(), AllocError>
+fn push_classes(
+    alloc: Global,
+    classes: &mut Vec<CoreClass>,
+    trees: &[Class],
+) -> Result<(), AllocError>
     requires limits { AreWithin trees.now }
     requires statics { all_statics trees.now ≤ 2 ^ 31 }
     ensures means { OnOk result (map the_class classes.new.items
@@ -186,7 +190,7 @@ fn push_classes(classes: &mut Vec<CoreClass>, trees: &[Class]) -> Result<(), All
 {
     let mut rest = trees;
     while let Some((class, others)) = rest.split_first() {
-        let meant = class_meant(class)?;
+        let meant = class_meant(alloc, class)?;
         classes.push(meant)?;
         rest = others;
     }
@@ -203,8 +207,8 @@ fn all_classes(alloc: Global, own: &[Class], os: &[Class]) -> Result<Vec<CoreCla
         (λ r. map the_class_name r.items ≡ class_names own.now ++ class_names os.now) }
 {
     let mut classes = Vec::new(alloc);
-    push_classes(&mut classes, own)?;
-    push_classes(&mut classes, os)?;
+    push_classes(alloc, &mut classes, own)?;
+    push_classes(alloc, &mut classes, os)?;
     Ok(classes)
 }
 

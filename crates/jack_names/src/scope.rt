@@ -4,9 +4,8 @@ ghost use Rattle.std.specs.Prelude.{◌≡◌};
 ghost use Rattle.jack_names.specs.Inner.Scoped.{the_scope, found_in};
 
 use crate::fault::File;
-use jack_tree::Form;
+use jack_tree::{Form, Text};
 use name_table::Table;
-use outer_world::Name as Text;
 
 /// Where a variable is: its number among those of its kind. The statics are numbered through all classes.
 #[derive(Clone, Copy, Debug, PartialEq, Eq)]

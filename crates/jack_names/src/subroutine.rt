@@ -12,8 +12,8 @@ use crate::bodies::statements_meant;
 use crate::meant::{call_one, literal, made_number};
 use crate::scope::{Owner, Scope};
 use jack_core::{Kind, Statement as CoreStatement, Subroutine as CoreSubroutine};
-use jack_tree::{Form, Locals, Statement, Subroutine};
-use outer_world::Name as Text;
+use jack_tree::{Form, Locals, Statement, Subroutine, Text};
+use outer_world::Name;
 use std::alloc::{AllocError, Global};
 
 // The statement by which a constructor takes the memory of its object.
@@ -30,7 +30,7 @@ fn begun(
         Form::Constructor => {
             let number = made_number(scope, b"Memory".as_slice(), b"alloc".as_slice());
             let words = literal(alloc, fields.max(1))?;
-            let value = call_one(number, words)?;
+            let value = call_one(alloc, number, &words)?;
             let taken = CoreStatement::LetThis { number: 0, value };
             Ok(vec![in alloc; taken]?)
         }
@@ -111,13 +111,13 @@ fn locals_of(locals: &[Locals]) -> usize
 }
 
 // The whole name of a subroutine, as `Main.main`.
-fn subroutine_name(alloc: Global, class: &Text, s: &Subroutine) -> Result<Text, AllocError>
+fn subroutine_name(alloc: Global, class: &Text, s: &Subroutine) -> Result<Name, AllocError>
     ensures { IfOk result (λ name. name ≡ subroutine_name class.now s.now) }
 {
     let mut name = String::from_str(alloc, class.as_str())?;
     name.push_str(".")?;
     name.push_str(s.name.text.as_str())?;
-    Text::new(alloc, name.as_str())
+    Name::new(alloc, name.as_str())
 }
 
 /// The subroutine that a tree means in a scope, in a class of this name and this many fields.

@@ -13,10 +13,9 @@ use crate::sketch::{
     TypeSketch,
 };
 use jack_tree::{
-    Call, Constant, Expression, Form, Locals, Name, Names, Operation, Operator, Parameter,
-    Statement, Subroutine, Term, Type,
+    BoxedExpression, BoxedName, Call, Constant, Expression, Form, Locals, Name, Names, Operation,
+    Operator, Parameter, Statement, Subroutine, Term, Text, Type,
 };
-use outer_world::Name as Text;
 use scan_text::Place;
 use std::alloc::{AllocError, Global};
 
@@ -32,6 +31,13 @@ fn name(alloc: Global, text: &str) -> Result<Name, AllocError>
     })
 }
 
+fn boxed_name(alloc: Global, text: &str) -> Result<BoxedName, AllocError>
+    ensures { IfOk result (λ n. name_leaf n ≡ made.name_of text.now) }
+{
+    let name = name(alloc, text)?;
+    BoxedName::new(alloc, name)
+}
+
 #[cycle(making)]
 fn term(alloc: Global, sketch: &TermSketch) -> Result<Term, AllocError>
     ensures { IfOk result (λ t. term_tree t ≡ sketched.term sketch.now) }
@@ -40,7 +46,7 @@ fn term(alloc: Global, sketch: &TermSketch) -> Result<Term, AllocError>
         TermSketch::Number(value) => Ok(Term::Constant(Constant::Integer(*value))),
         TermSketch::Variable(text) => Ok(Term::Variable(name(alloc, text)?)),
         TermSketch::Element(text, index) => {
-            let name = name(alloc, text)?;
+            let name = boxed_name(alloc, text)?;
             let index = expression(alloc, index)?;
             Ok(Term::Element(name, Box::new(alloc, index)?))
         }
@@ -96,6 +102,13 @@ fn expression(alloc: Global, sketch: &ExpressionSketch) -> Result<Expression, Al
             Ok(chain(left, vec![in alloc; more, last]?))
         }
     }
+}
+
+fn boxed(alloc: Global, sketch: &ExpressionSketch) -> Result<BoxedExpression, AllocError>
+    ensures { IfOk result (λ e. exp_tree e ≡ sketched.expression sketch.now) }
+{
+    let expression = expression(alloc, sketch)?;
+    BoxedExpression::new(alloc, expression)
 }
 
 // A call through a name.
@@ -177,12 +190,12 @@ fn statement(alloc: Global, sketch: &StatementSketch) -> Result<Statement, Alloc
         StatementSketch::Let(text, value) => let_variable(alloc, text, value),
         StatementSketch::LetElement(text, index, value) => let_element(alloc, text, index, value),
         StatementSketch::If(condition, body) => {
-            let condition = expression(alloc, condition)?;
+            let condition = boxed(alloc, condition)?;
             let body = statements(alloc, body)?;
             Ok(Statement::If(NOWHERE, condition, body, None))
         }
         StatementSketch::IfElse(condition, body, other) => {
-            let condition = expression(alloc, condition)?;
+            let condition = boxed(alloc, condition)?;
             let body = statements(alloc, body)?;
             let other = statements(alloc, other)?;
             Ok(Statement::If(NOWHERE, condition, body, Some(other)))

@@ -14,7 +14,7 @@ use crate::words::{
     term_begins, unary,
 };
 use grammar::{Fault, ReadError};
-use jack_tree::{Call, Expression, Name, Operation, Term, Token};
+use jack_tree::{BoxedName, Call, Expression, Name, Operation, Term, Token};
 use scan_text::Place;
 use std::alloc::Global;
 
@@ -96,7 +96,8 @@ fn variable<'a>(
         let rest = symbol(rest, end, counts, b'[')?;
         let (index, rest) = nested(alloc, rest, end, counts)?;
         let rest = symbol(rest, end, counts, b']')?;
-        return Ok((Term::Element(name, Box::new(alloc, index)?), rest));
+        let array = BoxedName::new(alloc, name)?;
+        return Ok((Term::Element(array, Box::new(alloc, index)?), rest));
     }
     if call_begins(rest) {
         let (call, after) = call_of(alloc, name, rest, end, counts)?;

@@ -3,8 +3,7 @@
 ghost use Rattle.std.specs.Prelude.{◌≡◌, IfOk};
 ghost use Rattle.std.specs.Str.{IsAscii};
 
-use jack_tree::{Name, Token};
-use outer_world::Name as Text;
+use jack_tree::{Name, Text, Token};
 use std::alloc::{AllocError, Global};
 
 /// Bytes of a token as a text: they are ASCII.

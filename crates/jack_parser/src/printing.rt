@@ -53,7 +53,7 @@ fn put_constant<S: Sink>(constant: &Constant, status: Put, out: &mut Pieces<'_, 
             let mut digits = Buffer::new();
             put_token(digits.format(*number).as_bytes(), status, out)
         }
-        Constant::Text(text) => put_string(text.text.as_bytes(), status, out),
+        Constant::Text(text) => put_string(text.get().text.as_bytes(), status, out),
         Constant::True => put_keyword(Keyword::True, status, out),
         Constant::False => put_keyword(Keyword::False, status, out),
         Constant::Null => put_keyword(Keyword::Null, status, out),
@@ -118,7 +118,7 @@ fn put_term<S: Sink>(one: &Term, status: Put, out: &mut Pieces<'_, S>) -> Put
         Term::Constant(constant) => put_constant(constant, status, out),
         Term::Variable(name) => put_name(name, status, out),
         Term::Element(array, index) => {
-            let named = put_name(array, status, out);
+            let named = put_name(array.get(), status, out);
             let opened = put_symbol(b'[', named, out);
             let indexed = put_expression(index, opened, out);
             put_symbol(b']', indexed, out)
@@ -239,7 +239,7 @@ fn put_statement<S: Sink>(one: &Statement, status: Put, out: &mut Pieces<'_, S>)
         }
         Statement::If(_, condition, body, other) => {
             let asked = put_keyword(Keyword::If, status, out);
-            let tested = put_group(condition, asked, out);
+            let tested = put_group(condition.get(), asked, out);
             let opened = put_symbol(b'{', tested, out);
             let met = put_statements(body, opened, out);
             let closed = put_symbol(b'}', met, out);

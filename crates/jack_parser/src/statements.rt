@@ -14,7 +14,7 @@ use crate::words::{
     here, identifier, key, keyword, keyword_stands, stands, statement_begins, symbol, term_begins,
 };
 use grammar::{Fault, ReadError};
-use jack_tree::{Expression, Keyword, Statement, Token};
+use jack_tree::{BoxedExpression, Expression, Keyword, Statement, Token};
 use scan_text::Place;
 use std::alloc::Global;
 
@@ -154,7 +154,8 @@ fn if_statement<'a>(
     let (condition, rest) = grouped(alloc, rest, end, counts)?;
     let (body, rest) = block(alloc, rest, end, counts)?;
     let (other, rest) = else_block(alloc, rest, end, counts)?;
-    Ok((Statement::If(place, condition, body, other), rest))
+    let asked = BoxedExpression::new(alloc, condition)?;
+    Ok((Statement::If(place, asked, body, other), rest))
 }
 
 // The other way of an `if`, where one is written.

@@ -14,7 +14,7 @@ ghost use Rattle.jack_parser.specs.Trees.{name_said, operator_said, operator_byt
 use crate::counts::{Counted, Counts, count};
 use crate::names::{name_of, text_of};
 use grammar::{Fault, ReadError};
-use jack_tree::{Constant, Keyword, Kind, Name, Operator, Sign, Token};
+use jack_tree::{BoxedName, Constant, Keyword, Kind, Name, Operator, Sign, Token};
 use scan_text::Place;
 use std::alloc::Global;
 
@@ -247,10 +247,8 @@ fn string(alloc: Global, text: &[u8], place: Place) -> Result<Constant, ReadErro
     if inside.len() > 16_384 {
         return Err(ReadError::Fault(Fault::Range(place, inside.len().min(1_000_000_000) as u32)));
     }
-    Ok(Constant::Text(Name {
-        text: text_of(alloc, inside)?,
-        place,
-    }))
+    let text = text_of(alloc, inside)?;
+    Ok(Constant::Text(BoxedName::new(alloc, Name { text, place })?))
 }
 
 pub fn constant<'a>(

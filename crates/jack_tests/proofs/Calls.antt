@@ -93,8 +93,8 @@ built_four k es (p ∷ ps) e c h =
     let le = enough (length es) k p ps e in
     built_four k (put p es) ps (ap (λ z. height z ps) (put_length p es le) ∙ behind (length es) k p ps e) c.1 (put_four p es le c.0 h)
 
-pub expression_four : (e : TheExpression) → AreOfFour e.parts.items → OfFour (calls (the_expression e))
-expression_four e c = (subst All (spells [] e) (built_four 1 [] e.parts.items e.one c tt)).0
+pub expression_four : (e : TheExpression) → AreOfFour e.parts → OfFour (calls (the_expression e))
+expression_four e c = (subst All (spells [] e) (built_four 1 [] e.parts e.one c tt)).0
 
 -- a text and a statement after it
 pub block_four : (ss : List Statement) (s : Statement) → OfFour (text_calls (the_block ss)) → OfFour (statement_calls (the_statement s)) → OfFour (text_calls (the_block (ss ++ s ∷ [])))

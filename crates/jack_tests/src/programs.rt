@@ -8,7 +8,9 @@ ghost use Rattle.jack_meaning.specs.Linked.{calls, statement_calls, text_calls};
 ghost use Rattle.jack_machine.specs.Calls.{CallsAreThere};
 ghost use Rattle.jack_tests.specs.Inner.Called.{AreOfFour, AreSo, IsOfFour, OfFour};
 
-use jack_core::{Class, Core, Expression, Kind, Operator, Part, Statement, Subroutine, Variable};
+use jack_core::{
+    Class, Core, Expression, Kind, Operator, Part, Parts, Statement, Subroutine, Variable,
+};
 use outer_world::Name;
 use std::alloc::{AllocError, Global};
 use std::test::Fail;
@@ -94,7 +96,8 @@ fn expression(alloc: Global, parts: &[Part]) -> Result<Expression, Fail>
     if values != 1 {
         return Err(Fail::from("another number of values than one"));
     }
-    Ok(Expression { parts: all })
+    let kept = Parts::new(alloc, all)?;
+    Ok(Expression { parts: kept })
 }
 
 fn statement(alloc: Global, written: Written<'_>) -> Result<Statement, Fail>

@@ -1,3 +1,4 @@
 pub mod Tokens
 pub mod Syntax
 pub mod Seen
+pub mod Inner

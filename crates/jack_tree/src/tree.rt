@@ -1,6 +1,9 @@
 //! Trees, with the places of names, strings, `this` and statements.
 
-use outer_world::Name as Text;
+use crate::boxed_expression::BoxedExpression;
+use crate::boxed_name::BoxedName;
+use crate::text::Text;
+use outer_world::Name as FileName;
 use scan_text::Place;
 
 /// A text of the source, and the place where its token begins: a name, or what is between the quotes of a string.
@@ -37,7 +40,7 @@ pub enum Sign {
 #[derive(Debug, Drop)]
 pub enum Constant {
     Integer(u16),
-    Text(Name),
+    Text(BoxedName),
     True,
     False,
     Null,
@@ -59,7 +62,7 @@ pub enum Term {
     Constant(Constant),
     Variable(Name),
     /// `name[index]`
-    Element(Name, Box<Expression>),
+    Element(BoxedName, Box<Expression>),
     Call(Box<Call>),
     /// An expression in parentheses.
     Group(Box<Expression>),
@@ -89,14 +92,14 @@ pub enum Statement {
     /// `let name = value;` and `let name[index] = value;`
     Let(Place, Name, Option<Box<Expression>>, Expression),
     /// The condition, and the statements of both ways; an `else` may be absent.
-    If(Place, Expression, Vec<Statement>, Option<Vec<Statement>>),
+    If(Place, BoxedExpression, Vec<Statement>, Option<Vec<Statement>>),
     While(Place, Expression, Vec<Statement>),
     Do(Place, Call),
     Return(Place, Option<Expression>),
 }
 
-// The statement that is most frequent is the largest, so an index, which is rare in it, stands apart.
-const _: () = prove!(size_of::<Statement>() == 144);
+// All statements of a folder stand at once, and most of them are a `let` of a variable: that is the largest one.
+const _: () = prove!(size_of::<Statement>() == 112);
 
 /// What a value is said to be.
 #[derive(Debug, Drop)]
@@ -165,7 +168,7 @@ pub struct Subroutine {
 /// A class, with the name of its file.
 #[derive(Drop)]
 pub struct Class {
-    pub file: Text,
+    pub file: FileName,
     pub name: Name,
     pub variables: Vec<ClassVariables>,
     pub subroutines: Vec<Subroutine>,

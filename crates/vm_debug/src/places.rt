@@ -8,19 +8,19 @@ use image_map::{ImageMap, PointRange};
 use jack_debug::{
     ClassPlaces, PlacedRange, PlacedStatic, Places, SubPlaces, classes_by_name, subroutine_places,
 };
-use jack_tree::{Class, ClassVariables, Locals, Names, Parameter, Scope, Subroutine};
+use jack_tree::{Class, ClassVariables, Locals, Names, Parameter, Scope, Subroutine, Text};
 use outer_world::{List, Name, Point};
 use scan_text::Place;
 use std::alloc::{AllocError, Global};
 use vm_link::{Linked, LinkedFile, LinkedFunction};
 
 // Adds the names of a declaration.
-fn add_names(declared: &Names, names: &mut List<Name>) -> Result<(), AllocError>
+fn add_names(alloc: Global, declared: &Names, names: &mut List<Name>) -> Result<(), AllocError>
     ensures { OnOk result (names.new ≡ names.old ++ names_in declared.now) }
 {
-    names.push(declared.first.text.clone()?)?;
+    names.push(declared.first.text.name(alloc)?)?;
     for name in &declared.more {
-        names.push(name.text.clone()?)?;
+        names.push(name.text.name(alloc)?)?;
     }
     Ok(())
 }
@@ -31,7 +31,7 @@ fn arguments_of(alloc: Global, parameters: &[Parameter]) -> Result<List<Name>, A
 {
     let mut names = List::new(alloc);
     for parameter in parameters {
-        names.push(parameter.name.text.clone()?)?;
+        names.push(parameter.name.text.name(alloc)?)?;
     }
     Ok(names)
 }
@@ -42,17 +42,22 @@ fn locals_of(alloc: Global, locals: &[Locals]) -> Result<List<Name>, AllocError>
 {
     let mut names = List::new(alloc);
     for line in locals {
-        add_names(&line.names, &mut names)?;
+        add_names(alloc, &line.names, &mut names)?;
     }
     Ok(names)
 }
 
 // Adds the names of a declaration of statics.
-fn add_statics(scope: Scope, declared: &Names, names: &mut List<Name>) -> Result<(), AllocError>
+fn add_statics(
+    alloc: Global,
+    scope: Scope,
+    declared: &Names,
+    names: &mut List<Name>,
+) -> Result<(), AllocError>
     ensures { OnOk result (names.new ≡ names.old ++ names_of_statics scope declared.now) }
 {
     match scope {
-        Scope::Static => add_names(declared, names),
+        Scope::Static => add_names(alloc, declared, names),
         Scope::Field => Ok(()),
     }
 }
@@ -63,18 +68,23 @@ fn statics_of(alloc: Global, variables: &[ClassVariables]) -> Result<List<Name>,
 {
     let mut names = List::new(alloc);
     for line in variables {
-        add_statics(line.scope, &line.names, &mut names)?;
+        add_statics(alloc, line.scope, &line.names, &mut names)?;
     }
     Ok(names)
 }
 
 // Adds the names of a declaration of fields.
-fn add_fields(scope: Scope, declared: &Names, names: &mut List<Name>) -> Result<(), AllocError>
+fn add_fields(
+    alloc: Global,
+    scope: Scope,
+    declared: &Names,
+    names: &mut List<Name>,
+) -> Result<(), AllocError>
     ensures { OnOk result (names.new ≡ names.old ++ names_of_fields scope declared.now) }
 {
     match scope {
         Scope::Static => Ok(()),
-        Scope::Field => add_names(declared, names),
+        Scope::Field => add_names(alloc, declared, names),
     }
 }
 
@@ -84,7 +94,7 @@ fn fields_of(alloc: Global, variables: &[ClassVariables]) -> Result<List<Name>, 
 {
     let mut names = List::new(alloc);
     for line in variables {
-        add_fields(line.scope, &line.names, &mut names)?;
+        add_fields(alloc, line.scope, &line.names, &mut names)?;
     }
     Ok(names)
 }
@@ -187,7 +197,7 @@ fn class_at(
     let (before, words) = file_words(files, k);
     let statics = statics_at(alloc, names.as_slice(), 16 + before, words)?;
     Ok(ClassPlaces {
-        name: class.name.text.clone()?,
+        name: class.name.text.name(alloc)?,
         file: file_of(alloc, own, k, &class.file)?,
         fields: fields_of(alloc, &class.variables)?,
         statics,
@@ -214,7 +224,7 @@ fn add_classes(
 }
 
 // The whole name of a subroutine, as `Main.main`.
-fn whole_name(alloc: Global, class: &Name, sub: &Name) -> Result<Name, AllocError>
+fn whole_name(alloc: Global, class: &Text, sub: &Text) -> Result<Name, AllocError>
     ensures { IfOk result (λ name. name ≡ class.now ++ (codes "." ++ sub.now)) }
 {
     let mut name = String::from_str(alloc, class.as_str())?;
@@ -228,7 +238,7 @@ fn sub_at(
     alloc: Global,
     sub: &Subroutine,
     class: u32,
-    name: &Name,
+    name: &Text,
     entry: (u32, u32),
 ) -> Result<SubPlaces, AllocError>
     ensures { IfOk result (λ placed. placed ≡ sub_with class name.now entry sub.now) }

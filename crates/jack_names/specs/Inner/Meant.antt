@@ -2,7 +2,7 @@
 -- calls of Math. A string is made by String.new and filled by appendChar, and a method call has its object as first argument. Each statement
 -- gets its number in the order of the text, and a body whose last statement is no `return` gets one. A constructor first takes the memory of
 -- its object.
-use Rattle.std.specs.Prelude.{ℕ, ◌+◌, ◌%◌, Bool, true, false, List, [], ◌∷◌, map, Option, Some, None, length, codes, Vec}
+use Rattle.std.specs.Prelude.{ℕ, ◌+◌, Bool, true, false, List, [], ◌∷◌, map, Option, Some, None, codes, Vec}
 use Rattle.std.specs.Global.{Global}
 use Rattle.jack_tree.specs.Seen.{unbox}
 use Rattle.jack_meaning.specs.Text as meaning
@@ -18,12 +18,9 @@ use Rattle.jack_tree.specs.declared.tree.Term as terms
 use Rattle.jack_tree.specs.declared.tree.Operation.{Operation}
 use Rattle.jack_tree.specs.declared.tree.Expression.{Expression, Expression', Row_of-Operation, end_of-Operation, more_of-Operation}
 use Rattle.jack_tree.specs.declared.tree.Statement as statements
-use Rattle.jack_names.specs.Made.{slot_meant, declared_meant, with_variable, one, two, filled_characters, length_word, assignment, let_by}
+use Rattle.jack_names.specs.Made.{declared_meant, with_variable, one, two, filled_characters, length_word, let_by}
 use Rattle.jack_names.specs.Sizes.{size, row_size}
 use Rattle.jack_names.specs.Inner.Scopes.{Scope, callee}
-use Rattle.jack_names.specs.declared.scope.Slot.{Slot}
-use Rattle.jack_names.specs.declared.scope.Slot.TheVariants as slot
-use Rattle.jack_names.specs.declared.scope.Declared.{Declared}
 use Rattle.jack_names.specs.declared.scope.Signature.{Signature}
 use Rattle.jack_names.specs.declared.scope.Callee.{Callee}
 

@@ -9,12 +9,12 @@ use Rattle.jack_compiler.proofs.reached.mark_expression.Goals as goal
 
 pub loop-part-preserved : goal.loop-part-preserved
 loop-part-preserved c =
-    let inside : c.loop-part.part-index < length c.deref-part-items.result.now = omega arith in
-    parts_next c.args.e.now.parts.items c.deref-part-items.result.now c.loop-part.part-index (part.Literal 0) c.args.search.now c.loop-part.search c.mark_part.new.search
-    c.deref-part-items.ensures.value inside c.loop-part.invariant c.in_ok-mark_part.ensures
+    let inside : c.loop-part.part-index < length c.as_slice-part-items.result.now = omega arith in
+    parts_next c.args.e.now.parts c.as_slice-part-items.result.now c.loop-part.part-index (part.Literal 0) c.args.search.now c.loop-part.search c.mark_part.new.search
+    c.as_slice-part-items.ensures inside c.loop-part.invariant c.in_ok-mark_part.ensures
 
 pub returns : goal.returns
 returns c =
-    let over : length c.args.e.now.parts.items ≤ c.loop-part.part-index = omega (arith, ap length c.deref-part-items.ensures.value) in
-    visits_as (parts_calls (take c.loop-part.part-index c.args.e.now.parts.items)) (calls (the_expression c.args.e.now)) c.args.search.now c.loop-part.search
-    (ap parts_calls (take_all c.loop-part.part-index c.args.e.now.parts.items over) ∙ spelled_calls c.args.e.now) c.loop-part.invariant
+    let over : length c.args.e.now.parts ≤ c.loop-part.part-index = omega (arith, ap length c.as_slice-part-items.ensures) in
+    visits_as (parts_calls (take c.loop-part.part-index c.args.e.now.parts)) (calls (the_expression c.args.e.now)) c.args.search.now c.loop-part.search
+    (ap parts_calls (take_all c.loop-part.part-index c.args.e.now.parts over) ∙ spelled_calls c.args.e.now) c.loop-part.invariant

@@ -33,7 +33,7 @@ statement_meant-returns-in-If-clause-text t c =
     let same : If n (is_some b) (exp_meant s e) (text_of (statements_meant s (n + 1) c.deref.result.now)) (else_meant s (n + 1 + sizes c.deref.result.now) b) ≡ statement_meant s n c.args.s.now =
     ap (λ ss. If n (is_some b) (exp_meant s e) (text_of (statements_meant s (n + 1) ss)) (else_meant s (n + 1 + sizes ss) b)) c.deref.ensures.value
     ∙ sym (if_means s n c.in-If.field-0 e c.in-If.holds b) ∙ ap (statement_meant s n) (sym c.in-If.is) in
-    subst (λ x. IfOk c.if_meant.result (λ r. the_statement r.0 ≡ x)) same c.if_meant.ensures.text
+    subst (λ x. IfOk c.if_meant.result (λ r. the_statement r.0 ≡ x)) same (rw c.get.ensures at c.if_meant.ensures.text)
 
 pub statement_meant-returns-in-If-clause-next : goal.statement_meant-returns-in-If-clause-next
 statement_meant-returns-in-If-clause-next t c =

@@ -29,7 +29,7 @@ check_statement-returns-in_err-check_expression-in-If t c =
     let s = the_scope c.args.scope.now in
     let p = err_from_is_err_and c.from_residual-in_err-check_expression-in-If.result c.from_residual-in_err-check_expression-in-If.ensures.1 in
     rw (p.1, p.2) (as_uses s _ _ (Err c.in_err-check_expression-in-If.field-0.0) (ap statement_uses c.in-If.is ∙ if_uses c.in-If.field-0 c.in-If.condition c.in-If.holds c.in-If.fails)
-    (uses_first s (exp_uses c.in-If.condition) (statements_uses c.in-If.holds.items ++ else_uses c.in-If.fails) _ c.in_err-check_expression-in-If.ensures))
+    (uses_first s (exp_uses c.in-If.condition) (statements_uses c.in-If.holds.items ++ else_uses c.in-If.fails) _ (as_uses s (exp_uses c.in-If.condition) (exp_uses c.get.result.now) (Err c.in_err-check_expression-in-If.field-0.0) (ap exp_uses (sym c.get.ensures)) c.in_err-check_expression-in-If.ensures)))
 
 pub check_statement-returns-in_err-check_statements-in-If : goal.check_statement-returns-in_err-check_statements-in-If
 check_statement-returns-in_err-check_statements-in-If t c =
@@ -37,13 +37,13 @@ check_statement-returns-in_err-check_statements-in-If t c =
     let p = err_from_is_err_and c.from_residual-in_err-check_statements-in-If.result c.from_residual-in_err-check_statements-in-If.ensures.1 in
     let a = as_uses s (statements_uses c.in-If.holds.items) (statements_uses c.deref.result.now) (Err c.in_err-check_statements-in-If.field-0.0) (ap statements_uses (sym c.deref.ensures.value)) c.in_err-check_statements-in-If.ensures in
     rw (p.1, p.2) (as_uses s _ _ (Err c.in_err-check_statements-in-If.field-0.0) (ap statement_uses c.in-If.is ∙ if_uses c.in-If.field-0 c.in-If.condition c.in-If.holds c.in-If.fails)
-    (uses_second s (exp_uses c.in-If.condition) (statements_uses c.in-If.holds.items ++ else_uses c.in-If.fails) (Err c.in_err-check_statements-in-If.field-0.0) c.in_ok-check_expression-in-If.ensures (uses_first s (statements_uses c.in-If.holds.items) (else_uses c.in-If.fails) _ a)))
+    (uses_second s (exp_uses c.in-If.condition) (statements_uses c.in-If.holds.items ++ else_uses c.in-If.fails) (Err c.in_err-check_statements-in-If.field-0.0) (rw c.get.ensures at c.in_ok-check_expression-in-If.ensures) (uses_first s (statements_uses c.in-If.holds.items) (else_uses c.in-If.fails) _ a)))
 
 pub check_statement-returns-in-None : goal.check_statement-returns-in-None
 check_statement-returns-in-None t c =
     let s = the_scope c.args.scope.now in
     as_uses s (statement_uses c.args.s.now) (exp_uses c.in-If.condition ++ (statements_uses c.in-If.holds.items ++ else_uses c.in-If.fails)) (Ok tt) (ap statement_uses c.in-If.is ∙ if_uses c.in-If.field-0 c.in-If.condition c.in-If.holds c.in-If.fails)
-    (uses_second s (exp_uses c.in-If.condition) (statements_uses c.in-If.holds.items ++ else_uses c.in-If.fails) (Ok tt) c.in_ok-check_expression-in-If.ensures
+    (uses_second s (exp_uses c.in-If.condition) (statements_uses c.in-If.holds.items ++ else_uses c.in-If.fails) (Ok tt) (rw c.get.ensures at c.in_ok-check_expression-in-If.ensures)
     (uses_second s (statements_uses c.in-If.holds.items) (else_uses c.in-If.fails) (Ok tt) (ap (λ ss. first_fault s (statements_uses ss)) (sym c.deref.ensures.value) ∙ c.in_ok-check_statements-in-If.ensures) (ap (λ o. first_fault s (else_uses o)) c.in-None.is)))
 
 pub check_statement-returns-in-Some : goal.check_statement-returns-in-Some
@@ -51,7 +51,7 @@ check_statement-returns-in-Some t c =
     let s = the_scope c.args.scope.now in
     let b = as_uses s (else_uses c.in-If.fails) (statements_uses c.deref-in-Some.result.now) _ (ap else_uses c.in-Some.is ∙ ap statements_uses (sym c.deref-in-Some.ensures.value)) c.check_statements-in-Some.ensures in
     as_uses s (statement_uses c.args.s.now) (exp_uses c.in-If.condition ++ (statements_uses c.in-If.holds.items ++ else_uses c.in-If.fails)) _ (ap statement_uses c.in-If.is ∙ if_uses c.in-If.field-0 c.in-If.condition c.in-If.holds c.in-If.fails)
-    (uses_second s (exp_uses c.in-If.condition) (statements_uses c.in-If.holds.items ++ else_uses c.in-If.fails) _ c.in_ok-check_expression-in-If.ensures (uses_second s (statements_uses c.in-If.holds.items) (else_uses c.in-If.fails) _ (ap (λ ss. first_fault s (statements_uses ss)) (sym c.deref.ensures.value) ∙ c.in_ok-check_statements-in-If.ensures) b))
+    (uses_second s (exp_uses c.in-If.condition) (statements_uses c.in-If.holds.items ++ else_uses c.in-If.fails) _ (rw c.get.ensures at c.in_ok-check_expression-in-If.ensures) (uses_second s (statements_uses c.in-If.holds.items) (else_uses c.in-If.fails) _ (ap (λ ss. first_fault s (statements_uses ss)) (sym c.deref.ensures.value) ∙ c.in_ok-check_statements-in-If.ensures) b))
 
 pub check_statement-returns-in_err-check_expression-in-While : goal.check_statement-returns-in_err-check_expression-in-While
 check_statement-returns-in_err-check_expression-in-While t c =

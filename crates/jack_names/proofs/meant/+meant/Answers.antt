@@ -76,7 +76,7 @@ push_term-returns-in_ok-push_expression-in-Element t c =
     let base = make_expression c.variable_part-in-Element.result [] in
     let index = exp_meant s c.deref.result.now in
     let same : meaning.Load base index ≡ term_meant s c.args.term.now =
-    ap (λ a. meaning.Load a index) c.variable_part-in-Element.ensures.made ∙ ap (λ e. meaning.Load (variable_meant s c.in-Element.name) (exp_meant s e)) c.deref.ensures ∙ ap (term_meant s) (sym c.in-Element.is) in
+    ap (λ a. meaning.Load a index) (rw c.get.ensures at c.variable_part-in-Element.ensures.made) ∙ ap (λ e. meaning.Load (variable_meant s c.in-Element.name) (exp_meant s e)) c.deref.ensures ∙ ap (term_meant s) (sym c.in-Element.is) in
     on_ok_weaker c.push_part.result
     (λ last. added_as (meaning.Load base index) (term_meant s c.args.term.now) old new same
     (added_turned base (λ a. meaning.Load a index) old middle new c.in_ok-push_value-in-Element.ensures

@@ -8,10 +8,10 @@ use Rattle.jack_names.proofs.Pushing.{alone, means}
 use Rattle.jack_names.proofs.meant.expression_meant.Goals as goal
 
 pub invariant_of-result : goal.invariant_of-result
-invariant_of-result c = record { one = ap (height 0) c.shrink_to_fit.ensures.items ∙ (alone (exp_meant (the_scope c.args.scope.now) c.args.e.now) c.in_ok-parts.parts.items c.push_expression.new.parts.items c.in_ok-parts.ensures.items c.in_ok-push_expression.ensures).height_is }
+invariant_of-result c = record { one = ap (height 0) c.in_ok-kept.ensures ∙ (alone (exp_meant (the_scope c.args.scope.now) c.args.e.now) c.in_ok-parts.parts.items c.push_expression.new.parts.items c.in_ok-parts.ensures.items c.in_ok-push_expression.ensures).height_is }
 
 pub returns : goal.returns
 returns c =
     let e = exp_meant (the_scope c.args.scope.now) c.args.e.now in
-    ap (λ ps. operand 0 (build_expressions [] ps)) c.shrink_to_fit.ensures.items
+    ap (λ ps. operand 0 (build_expressions [] ps)) c.in_ok-kept.ensures
     ∙ means e c.push_expression.new.parts.items (alone e c.in_ok-parts.parts.items c.push_expression.new.parts.items c.in_ok-parts.ensures.items c.in_ok-push_expression.ensures)

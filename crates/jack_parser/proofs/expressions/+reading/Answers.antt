@@ -123,8 +123,13 @@ variable-returns-in_err-rest-2-clause-reads t c =
     let p = err_from_is_err_and c.from_residual-in_err-rest-2.result c.from_residual-in_err-rest-2.ensures.1 in
     rw (p.1, p.2) (halt_variable c.requires.begun (halt_second c.in_ok-name.ensures.reads (halt_option (next_left (is_symbol 91) (λ t. is_symbol 40 t || is_symbol 46 t) (map view c.in_ok-name.rest.now) (sym c.if-stands.ensures)) (halt_left (sym c.if-stands.ensures) (halt_second c.in_ok-rest.ensures.reads (halt_second c.in_ok-index.ensures.reads c.in_err-rest-2.ensures.reads))))))
 
+pub variable-returns-in_err-array-clause-reads : goal.variable-returns-in_err-array-clause-reads
+variable-returns-in_err-array-clause-reads t c =
+    let p = err_from_is_err_and c.from_residual-in_err-array.result c.from_residual-in_err-array.ensures.1 in
+    rw (p.1, p.2) (memory)
+
 pub variable-returns-then-stands-clause-reads : goal.variable-returns-then-stands-clause-reads
-variable-returns-then-stands-clause-reads t c = rw c.in_ok-new.ensures.ok (variable_term c.requires.begun (both c.in_ok-name.ensures.reads (taken (next_left (is_symbol 91) (λ t. is_symbol 40 t || is_symbol 46 t) (map view c.in_ok-name.rest.now) (sym c.if-stands.ensures)) (left (sym c.if-stands.ensures) (both c.in_ok-rest.ensures.reads (both c.in_ok-index.ensures.reads c.in_ok-rest-2.ensures.reads))))))
+variable-returns-then-stands-clause-reads t c = rw (c.in_ok-array.ensures, c.in_ok-new.ensures.ok) (variable_term c.requires.begun (both c.in_ok-name.ensures.reads (taken (next_left (is_symbol 91) (λ t. is_symbol 40 t || is_symbol 46 t) (map view c.in_ok-name.rest.now) (sym c.if-stands.ensures)) (left (sym c.if-stands.ensures) (both c.in_ok-rest.ensures.reads (both c.in_ok-index.ensures.reads c.in_ok-rest-2.ensures.reads))))))
 
 pub variable-returns-in_err-call-clause-reads : goal.variable-returns-in_err-call-clause-reads
 variable-returns-in_err-call-clause-reads t c =

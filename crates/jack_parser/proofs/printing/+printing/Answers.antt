@@ -25,7 +25,7 @@ pub put_term-returns-in-Variable : goal.put_term-returns-in-Variable
 put_term-returns-in-Variable g t c = rw c.in-Variable.is (shows_named (shows_right (shows_left (shows_both (shows_word c.put_name.ensures) shows_absent))))
 
 pub put_term-returns-in-Element : goal.put_term-returns-in-Element
-put_term-returns-in-Element g t c = rw (c.in-Element.is, ← c.deref.ensures) (shows_named (shows_right (shows_left (shows_both (shows_word c.put_name-named.ensures) (shows_present (shows_left (shows_both (shows_mark c.put_symbol-opened.ensures) (shows_both (shows_inside c.put_expression-indexed.ensures) (shows_mark c.put_symbol.ensures)))))))))
+put_term-returns-in-Element g t c = rw (c.in-Element.is, ← c.deref.ensures) (shows_named (shows_right (shows_left (shows_both (shows_word (rw c.get.ensures at c.put_name-named.ensures)) (shows_present (shows_left (shows_both (shows_mark c.put_symbol-opened.ensures) (shows_both (shows_inside c.put_expression-indexed.ensures) (shows_mark c.put_symbol.ensures)))))))))
 
 pub put_term-returns-in-Group : goal.put_term-returns-in-Group
 put_term-returns-in-Group g t c = rw (c.in-Group.is, ← c.deref-in-Group.ensures) (shows_named (shows_right (shows_right (shows_left (shows_both (shows_mark c.put_symbol-before.ensures) (shows_both (shows_inside c.put_expression-grouped.ensures) (shows_mark c.put_symbol-in-Group.ensures)))))))

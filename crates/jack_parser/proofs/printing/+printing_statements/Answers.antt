@@ -10,10 +10,10 @@ pub put_statement-returns-in-Let : goal.put_statement-returns-in-Let
 put_statement-returns-in-Let g t c = rw c.in-Let.is (shows_named (shows_inside (shows_left (shows_both (shows_word c.put_keyword-begun.ensures) (shows_both (shows_word c.put_name-named.ensures) (shows_both c.put_index-indexed.ensures (shows_both (shows_mark c.put_symbol-assigned.ensures) (shows_both c.put_expression-valued.ensures (shows_mark c.put_symbol.ensures)))))))))
 
 pub put_statement-returns-in-None : goal.put_statement-returns-in-None
-put_statement-returns-in-None g t c = shows_if c.in-If.body c.in-If.other c.in-If.is (shows_both (shows_word c.put_keyword-asked.ensures) (shows_both c.put_group-tested.ensures (shows_both (shows_both (shows_mark c.put_symbol-opened.ensures) (shows_both (rw c.deref.ensures.value at c.put_statements-met.ensures) (shows_mark c.put_symbol-closed.ensures))) (rw c.in-None.is shows_absent))))
+put_statement-returns-in-None g t c = shows_if c.in-If.body c.in-If.other c.in-If.is (shows_both (shows_word c.put_keyword-asked.ensures) (shows_both (rw c.get.ensures at c.put_group-tested.ensures) (shows_both (shows_both (shows_mark c.put_symbol-opened.ensures) (shows_both (rw c.deref.ensures.value at c.put_statements-met.ensures) (shows_mark c.put_symbol-closed.ensures))) (rw c.in-None.is shows_absent))))
 
 pub put_statement-returns-in-Some : goal.put_statement-returns-in-Some
-put_statement-returns-in-Some g t c = shows_if c.in-If.body c.in-If.other c.in-If.is (shows_both (shows_word c.put_keyword-asked.ensures) (shows_both c.put_group-tested.ensures (shows_both (shows_both (shows_mark c.put_symbol-opened.ensures) (shows_both (rw c.deref.ensures.value at c.put_statements-met.ensures) (shows_mark c.put_symbol-closed.ensures))) (rw c.in-Some.is (shows_present (shows_both (shows_mark c.put_keyword-turned.ensures) (shows_both (shows_mark c.put_symbol-entered.ensures) (shows_both (rw c.deref-in-Some.ensures.value at c.put_statements-unmet.ensures) (shows_mark c.put_symbol-in-Some.ensures)))))))))
+put_statement-returns-in-Some g t c = shows_if c.in-If.body c.in-If.other c.in-If.is (shows_both (shows_word c.put_keyword-asked.ensures) (shows_both (rw c.get.ensures at c.put_group-tested.ensures) (shows_both (shows_both (shows_mark c.put_symbol-opened.ensures) (shows_both (rw c.deref.ensures.value at c.put_statements-met.ensures) (shows_mark c.put_symbol-closed.ensures))) (rw c.in-Some.is (shows_present (shows_both (shows_mark c.put_keyword-turned.ensures) (shows_both (shows_mark c.put_symbol-entered.ensures) (shows_both (rw c.deref-in-Some.ensures.value at c.put_statements-unmet.ensures) (shows_mark c.put_symbol-in-Some.ensures)))))))))
 
 pub put_statement-returns-in-While : goal.put_statement-returns-in-While
 put_statement-returns-in-While g t c = shows_while c.in-While.body c.in-While.is (shows_both (shows_word c.put_keyword-repeating.ensures) (shows_both c.put_group-guarded.ensures (shows_both (shows_mark c.put_symbol-entering.ensures) (shows_both (rw c.deref-in-While.ensures.value at c.put_statements-looped.ensures) (shows_mark c.put_symbol-in-While.ensures)))))

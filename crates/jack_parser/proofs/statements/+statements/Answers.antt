@@ -122,8 +122,13 @@ if_statement-returns-in_err-other-clause-reads t c =
     let p = err_from_is_err_and c.from_residual-in_err-other.result c.from_residual-in_err-other.ensures.1 in
     rw (p.1, p.2) (if_halts c.requires.begun (halt_second c.in_ok-place.ensures.reads (halt_second c.in_ok-condition.ensures.reads (halt_second c.in_ok-body.ensures.reads c.in_err-other.ensures.reads))))
 
+pub if_statement-returns-in_err-asked-clause-reads : goal.if_statement-returns-in_err-asked-clause-reads
+if_statement-returns-in_err-asked-clause-reads t c =
+    let p = err_from_is_err_and c.from_residual-in_err-asked.result c.from_residual-in_err-asked.ensures.1 in
+    rw (p.1, p.2) (memory)
+
 pub if_statement-returns-clause-reads : goal.if_statement-returns-clause-reads
-if_statement-returns-clause-reads t c = rw (if_is c.in_ok-place.place c.in_ok-condition.condition c.in_ok-body.body c.in_ok-other.other) (if_read c.requires.begun (both c.in_ok-place.ensures.reads (both c.in_ok-condition.ensures.reads (both c.in_ok-body.ensures.reads c.in_ok-other.ensures.reads))))
+if_statement-returns-clause-reads t c = rw (c.in_ok-asked.ensures, if_is c.in_ok-place.place c.in_ok-condition.condition c.in_ok-body.body c.in_ok-other.other) (if_read c.requires.begun (both c.in_ok-place.ensures.reads (both c.in_ok-condition.ensures.reads (both c.in_ok-body.ensures.reads c.in_ok-other.ensures.reads))))
 
 pub block-returns-in_err-rest-clause-reads : goal.block-returns-in_err-rest-clause-reads
 block-returns-in_err-rest-clause-reads t c =
