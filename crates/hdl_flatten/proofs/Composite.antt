@@ -27,6 +27,7 @@ use Rattle.hdl_flatten.specs.declared.plan.PartPlan.{PartPlan}
 use Rattle.hdl_flatten.specs.Ends.{EndsHavePins}
 use Rattle.hdl_flatten.specs.Trees.{all_bits, end_nodes}
 use Rattle.hdl_flatten.specs.Inner.Wired.{wires_of, found_bit, origin_at}
+use Rattle.hdl_flatten.specs.Inner.Feeds.{feed_origins}
 use Rattle.hdl_flatten.specs.Inner.Plans.{moved_by, all_sized, parts_driven, end_gates, own_size, part_origins, places, IsPlanned, ArePlans}
 use Rattle.hdl_flatten.specs.Inner.Puts.{node_of, IsPlaced}
 use Rattle.hdl_flatten.specs.Flat.{IsEndBit}
@@ -86,7 +87,7 @@ plan_is x y h = cc
 
 module _ (chips : Chips) (net : Net) (plans : List Plan) (i : ℕ) (plan : Plan) (planned : IsPlanned chips plans i plan) (are : ArePlans chips plans) (shipped : EndsHavePins chips) (no_end : end_of chips.memories plan.entry.now ≡ None) (small : plan.size.nodes ≤ 16777216)
     (base : ℕ) (inputs : List ℕ) (block : List ℕ → ℕ) (at : List ℕ → Wires ℕ) (own : (name : List ℕ) (bit : ℕ) → at [] name bit ≡ node_of base inputs (origin_at (wires_of plan.wires) name bit))
-    (placed : (j : ℕ) (x : Plan) (q : PartPlan) → slice_get planned.inner j ≡ Some x → slice_get plan.parts.items j ≡ Some q → IsPlaced chips net x (base + q.offset) (map (node_of base inputs) q.origins.items) (λ path. block (j ∷ path)) (λ path. at (j ∷ path))) where
+    (placed : (j : ℕ) (x : Plan) (q : PartPlan) → slice_get planned.inner j ≡ Some x → slice_get plan.parts.items j ≡ Some q → IsPlaced chips net x (base + q.offset) (map (node_of base inputs) (feed_origins q.feeds)) (λ path. block (j ∷ path)) (λ path. at (j ∷ path))) where
   abbrev entry : Entry
   entry = plan.entry.now
 
@@ -130,13 +131,13 @@ module _ (chips : Chips) (net : Net) (plans : List Plan) (i : ℕ) (plan : Plan)
 
   module _ (j : ℕ) (part : Part) (there : slice_get (parts_of chips entry) j ≡ Some part) (s : Slot chips plans i wires start 0 planned.inner plan.parts.items j part) where
     abbrev feeds : List ℕ
-    feeds = map (node_of base inputs) s.q.origins.items
+    feeds = map (node_of base inputs) (feed_origins s.q.feeds)
 
     p : IsPlaced chips net s.x (base + s.q.offset) feeds (λ path. block (j ∷ path)) (λ path. at (j ∷ path))
     p = placed j s.x s.q s.plan_there s.part_there
 
     feeds_are : feeds ≡ map (λ o. node_at o base inputs) (part_origins wires part s.x)
-    feeds_are = nodes_are base inputs s.q.origins.items ∙ ap (map (λ o. node_at o base inputs)) s.origins
+    feeds_are = nodes_are base inputs (feed_origins s.q.feeds) ∙ ap (map (λ o. node_at o base inputs)) s.origins
 
     inside_is : (name : List ℕ) (bit : ℕ) → at (j ∷ []) name bit ≡ own_nodes (wires_of s.x.wires) (base + s.q.offset) feeds name bit
     inside_is name bit = p.own name bit ∙ node_is (base + s.q.offset) feeds (origin_at (wires_of s.x.wires) name bit)
@@ -295,7 +296,7 @@ module _ (chips : Chips) (net : Net) (plans : List Plan) (i : ℕ) (plan : Plan)
 pub composite : (chips : Chips) (net : Net) (plans : List Plan) (i : ℕ) (plan : Plan) (planned : IsPlanned chips plans i plan) → ArePlans chips plans → EndsHavePins chips → end_of chips.memories plan.entry.now ≡ None → plan.size.nodes ≤ 16777216 →
     (base : ℕ) (inputs : List ℕ) (block : List ℕ → ℕ) (at : List ℕ → Wires ℕ) →
     ((name : List ℕ) (bit : ℕ) → at [] name bit ≡ node_of base inputs (origin_at (wires_of plan.wires) name bit)) →
-    ((j : ℕ) (x : Plan) (q : PartPlan) → slice_get planned.inner j ≡ Some x → slice_get plan.parts.items j ≡ Some q → IsPlaced chips net x (base + q.offset) (map (node_of base inputs) q.origins.items) (λ path. block (j ∷ path)) (λ path. at (j ∷ path))) →
+    ((j : ℕ) (x : Plan) (q : PartPlan) → slice_get planned.inner j ≡ Some x → slice_get plan.parts.items j ≡ Some q → IsPlaced chips net x (base + q.offset) (map (node_of base inputs) (feed_origins q.feeds)) (λ path. block (j ∷ path)) (λ path. at (j ∷ path))) →
     IsPlaced chips net plan base inputs block at
 composite chips net plans i plan planned are shipped no_end small base inputs block at own placed = record {
   own = own;

@@ -3,6 +3,7 @@ pub mod Ending
 pub mod Nesting
 pub mod Sizing
 pub mod Wiring
+pub mod Feeding
 pub mod Planning
 pub mod Bridges
 pub mod Reading

@@ -7,7 +7,7 @@ use Rattle.hdl_tree.specs.declared.tree.Part.{Part}
 use Rattle.hdl_tree.specs.declared.ends.End.{End}
 use Rattle.hdl_tree.specs.Chips.{Chips, parts_of}
 use Rattle.hdl_check.specs.Inner.Stacks.{from_bottom}
-use Rattle.hdl_check.proofs.Stacks.{HasTop, top_of}
+use Rattle.hdl_check.proofs.Stacks.{top_of}
 use Rattle.hdl_flatten.specs.declared.wires.Origin.{Origin}
 use Rattle.hdl_flatten.specs.declared.plan.Plan.{Plan}
 use Rattle.hdl_flatten.specs.declared.plan.PartPlan.{PartPlan}
@@ -16,10 +16,12 @@ use Rattle.hdl_flatten.specs.declared.flat.Growing.{Growing}
 use Rattle.hdl_flatten.specs.declared.flat.Unfinished.{Unfinished}
 use Rattle.hdl_flatten.specs.Ends.{EndsHavePins}
 use Rattle.hdl_flatten.specs.Flat.{block_at}
+use Rattle.hdl_flatten.specs.Inner.Feeds.{feed_origins}
 use Rattle.hdl_flatten.specs.Inner.Plans.{ArePlans, HavePlans, places}
 use Rattle.hdl_flatten.specs.Inner.Puts.{node_of}
+use Rattle.hdl_flatten.specs.Inner.Fed.{nodes_in}
 use Rattle.hdl_flatten.specs.Inner.Putting.{MayPut, IsPut, IsGoing}
-use Rattle.hdl_flatten.specs.Inner.Unfinished.{Task, IsDone, IsUnfinished, IsPending, ArePending, CanBegin, EndStands, IsOnStack, IsBegunBy, IsBegun, parts_planned, steps_of, steps_left, all_steps}
+use Rattle.hdl_flatten.specs.Inner.Unfinished.{Task, IsDone, IsUnfinished, IsPending, ArePending, CanBegin, IsBegunBy, IsBegun, parts_planned, steps_of, steps_left, all_steps}
 use Rattle.hdl_flatten.proofs.Putting.{all_put, none_put, end_fed, end_put, plan_there, Head, head_next, head_put}
 
 pub head_there : (chips : Chips) (plans : List Plan) (place : ℕ) (plan : Plan) (inputs : List ℕ) (old now : Growing) (q : PartPlan) (qs : List PartPlan) (h : Head chips plans place plan inputs old now q qs) (y : Plan) → y ≡ get_or plans q.place y → slice_get plans q.place ≡ Some y
@@ -34,8 +36,8 @@ may_begin chips plans place plan inputs old are pins m is =
     let room = m.room in
     record { fed = λ e ends. end_fed chips plans place plan e inputs (are place plan at.0) pins ends (m.long ∙ ap (λ (x : Plan). length x.inputs.items) at.1); few = omega (arith, few, room) }
 
-pub nodes_are : (os ps : List Origin) (base old : ℕ) (is inputs nodes : List ℕ) → nodes ≡ map (node_of base is) os → os ≡ ps → base ≡ old → is ≡ inputs → nodes ≡ map (node_of old inputs) ps
-nodes_are os ps base old is inputs nodes e f g h = e ∙ ap (λ n. map (node_of n is) os) g ∙ ap (λ (t : List ℕ). map (node_of old t) os) h ∙ ap (map (node_of old inputs)) f
+pub nodes_are : (os : List Origin) (base old : ℕ) (inputs nodes : List ℕ) → nodes ≡ map (node_of base inputs) os → base ≡ old → nodes ≡ map (node_of old inputs) os
+nodes_are os base old inputs nodes e g = e ∙ ap (λ n. map (node_of n inputs) os) g
 
 module _ (chips : Chips) (plans : List Plan) (are : ArePlans chips plans) (pins : EndsHavePins chips) (task : Task) where
   -- ---- a chip is begun
@@ -59,7 +61,7 @@ module _ (chips : Chips) (plans : List Plan) (are : ArePlans chips plans) (pins 
         long = ap length b.1.inputs_are ∙ long;
         room = room;
         base_is = b.1.base_is;
-        going = subst (λ (t : List PartPlan). IsGoing chips plans place plan u.inputs.items old old t) (sym b.1.rest_is) (none_put chips plans place plan u.inputs.items old p (sym p.is_end ∙ is) few);
+        going = subst (λ (t : List PartPlan). IsGoing chips plans place plan (nodes_in u.inputs) old old t) (sym b.1.rest_is) (none_put chips plans place plan (nodes_in u.inputs) old p (sym p.is_end ∙ is) few);
       } in
       record {
         stack = u ∷ stack;
@@ -75,11 +77,11 @@ module _ (chips : Chips) (plans : List Plan) (are : ArePlans chips plans) (pins 
 
   -- ---- a chip goes on
 
-  pub head : (flat : Growing) (u : Unfinished) (o : IsUnfinished chips plans flat u) (q : PartPlan) (qs : List PartPlan) → u.rest.now ≡ q ∷ qs → Head chips plans o.place o.plan u.inputs.items o.old flat q qs
-  head flat u o q qs e = record { are = are; pins = pins; there = o.there; long = o.long; room = o.room; going = subst (λ (t : List PartPlan). IsGoing chips plans o.place o.plan u.inputs.items o.old flat t) e o.going }
+  pub head : (flat : Growing) (u : Unfinished) (o : IsUnfinished chips plans flat u) (q : PartPlan) (qs : List PartPlan) → u.rest.now ≡ q ∷ qs → Head chips plans o.place o.plan (nodes_in u.inputs) o.old flat q qs
+  head flat u o q qs e = record { are = are; pins = pins; there = o.there; long = o.long; room = o.room; going = subst (λ (t : List PartPlan). IsGoing chips plans o.place o.plan (nodes_in u.inputs) o.old flat t) e o.going }
 
-  pub further : (flat mid new : Growing) (u v : Unfinished) (o : IsUnfinished chips plans flat u) (q : PartPlan) (qs : List PartPlan) (h : Head chips plans o.place o.plan u.inputs.items o.old flat q qs) (y : Plan) → y ≡ get_or plans q.place y → (nodes : List ℕ) (listed : PartAt) → v.base ≡ u.base → v.inputs.items ≡ u.inputs.items → v.rest.now ≡ qs →
-      nodes ≡ map (node_of (length o.old.nodes.items) u.inputs.items) q.origins.items → mid.nodes.items ≡ flat.nodes.items → mid.blocks.items ≡ flat.blocks.items → mid.parts ≡ flat.parts ++ listed ∷ [] →
+  pub further : (flat mid new : Growing) (u v : Unfinished) (o : IsUnfinished chips plans flat u) (q : PartPlan) (qs : List PartPlan) (h : Head chips plans o.place o.plan (nodes_in u.inputs) o.old flat q qs) (y : Plan) → y ≡ get_or plans q.place y → (nodes : List ℕ) (listed : PartAt) → v.base ≡ u.base → (nodes_in v.inputs) ≡ (nodes_in u.inputs) → v.rest.now ≡ qs →
+      nodes ≡ map (node_of (length o.old.nodes.items) (nodes_in u.inputs)) (feed_origins q.feeds) → mid.nodes.items ≡ flat.nodes.items → mid.blocks.items ≡ flat.blocks.items → mid.parts ≡ flat.parts ++ listed ∷ [] →
       listed.chip ≡ y.entry.now.name → listed.outs ≡ map (node_of (length flat.nodes.items) nodes) y.outs.items → listed.block ≡ block_at y.end (length flat.blocks.items) → ((x : Plan) → slice_get plans q.place ≡ Some x → IsPut chips x nodes mid new) → IsUnfinished chips plans new v
   further flat mid new u v o q qs h y is nodes listed base inputs rest fed at_nodes at_blocks at_parts name outs block put = record {
     place = o.place;
@@ -90,16 +92,16 @@ module _ (chips : Chips) (plans : List Plan) (are : ArePlans chips plans) (pins 
     long = ap length inputs ∙ o.long;
     room = o.room;
     base_is = base ∙ o.base_is;
-    going = subst (λ (is : List ℕ). IsGoing chips plans o.place o.plan is o.old new v.rest.now) (sym inputs) (subst (λ (t : List PartPlan). IsGoing chips plans o.place o.plan u.inputs.items o.old new t) (sym rest)
-        (head_put chips plans o.place o.plan u.inputs.items o.old flat q qs h y is nodes mid new listed fed at_nodes at_blocks at_parts name outs block put));
+    going = subst (λ (is : List ℕ). IsGoing chips plans o.place o.plan is o.old new v.rest.now) (sym inputs) (subst (λ (t : List PartPlan). IsGoing chips plans o.place o.plan (nodes_in u.inputs) o.old new t) (sym rest)
+        (head_put chips plans o.place o.plan (nodes_in u.inputs) o.old flat q qs h y is nodes mid new listed fed at_nodes at_blocks at_parts name outs block put));
   }
 
-  pub carried : (flat mid new : Growing) (u v : Unfinished) (us : List Unfinished) (o : IsUnfinished chips plans flat u) (q : PartPlan) (qs : List PartPlan) (h : Head chips plans o.place o.plan u.inputs.items o.old flat q qs) (y : Plan) → y ≡ get_or plans q.place y → (nodes : List ℕ) (listed : PartAt) → v.base ≡ u.base → v.inputs.items ≡ u.inputs.items → v.rest.now ≡ qs →
-      nodes ≡ map (node_of (length o.old.nodes.items) u.inputs.items) q.origins.items → mid.nodes.items ≡ flat.nodes.items → mid.blocks.items ≡ flat.blocks.items → mid.parts ≡ flat.parts ++ listed ∷ [] →
-      listed.chip ≡ y.entry.now.name → listed.outs ≡ map (node_of (length flat.nodes.items) nodes) y.outs.items → listed.block ≡ block_at y.end (length flat.blocks.items) → ((x : Growing) → IsPut chips o.plan u.inputs.items o.old x → IsPending chips plans task us x) → IsPut chips y nodes mid new → IsPending chips plans task (v ∷ us) new
+  pub carried : (flat mid new : Growing) (u v : Unfinished) (us : List Unfinished) (o : IsUnfinished chips plans flat u) (q : PartPlan) (qs : List PartPlan) (h : Head chips plans o.place o.plan (nodes_in u.inputs) o.old flat q qs) (y : Plan) → y ≡ get_or plans q.place y → (nodes : List ℕ) (listed : PartAt) → v.base ≡ u.base → (nodes_in v.inputs) ≡ (nodes_in u.inputs) → v.rest.now ≡ qs →
+      nodes ≡ map (node_of (length o.old.nodes.items) (nodes_in u.inputs)) (feed_origins q.feeds) → mid.nodes.items ≡ flat.nodes.items → mid.blocks.items ≡ flat.blocks.items → mid.parts ≡ flat.parts ++ listed ∷ [] →
+      listed.chip ≡ y.entry.now.name → listed.outs ≡ map (node_of (length flat.nodes.items) nodes) y.outs.items → listed.block ≡ block_at y.end (length flat.blocks.items) → ((x : Growing) → IsPut chips o.plan (nodes_in u.inputs) o.old x → IsPending chips plans task us x) → IsPut chips y nodes mid new → IsPending chips plans task (v ∷ us) new
   unfolding further
   carried flat mid new u v us o q qs h y is nodes listed base inputs rest fed at_nodes at_blocks at_parts name outs block goes_on put =
-      let there = head_there chips plans o.place o.plan u.inputs.items o.old flat q qs h y is in (
+      let there = head_there chips plans o.place o.plan (nodes_in u.inputs) o.old flat q qs h y is in (
         further flat mid new u v o q qs h y is nodes listed base inputs rest fed at_nodes at_blocks at_parts name outs block
             (λ x at. let both : Some y ≡ Some x = sym there ∙ at in let same : y ≡ x = cc in subst (λ (z : Plan). IsPut chips z nodes mid new) same put),
         λ x whole. goes_on x (subst (λ (is : List ℕ). IsPut chips o.plan is o.old x) inputs whole),
@@ -107,10 +109,10 @@ module _ (chips : Chips) (plans : List Plan) (are : ArePlans chips plans) (pins 
 
   -- ---- a chip is put
 
-  pub finished : (flat : Growing) (u : Unfinished) (stack : List Unfinished) (o : IsUnfinished chips plans flat u) → u.rest.now ≡ [] → ((new : Growing) → IsPut chips o.plan u.inputs.items o.old new → IsPending chips plans task stack new) → IsPending chips plans task stack flat
+  pub finished : (flat : Growing) (u : Unfinished) (stack : List Unfinished) (o : IsUnfinished chips plans flat u) → u.rest.now ≡ [] → ((new : Growing) → IsPut chips o.plan (nodes_in u.inputs) o.old new → IsPending chips plans task stack new) → IsPending chips plans task stack flat
   finished flat u stack o e goes_on =
       let p = are o.place o.plan o.there in
-      goes_on flat (all_put chips plans o.place o.plan u.inputs.items o.old flat u.rest.now are pins (sym p.is_end ∙ o.none) o.room e o.going)
+      goes_on flat (all_put chips plans o.place o.plan (nodes_in u.inputs) o.old flat u.rest.now are pins (sym p.is_end ∙ o.none) o.room e o.going)
 
 -- ---- the chip on top
 

@@ -28,6 +28,9 @@ use Rattle.hdl_flatten.specs.Ends.{named_pins, end_outputs, EndsHavePins}
 use Rattle.hdl_flatten.specs.Inner.Nests.{IsFine, AreAt, IsNested}
 use Rattle.hdl_flatten.specs.Inner.Sizes.{joined_size, IsSmall}
 use Rattle.hdl_flatten.specs.Inner.Wired.{bit_of, wires_of, found_bit, origin_at, origins_at, FindsMore}
+use Rattle.hdl_flatten.specs.Inner.Feeds.{FewAre}
+use Rattle.hdl_flatten.specs.declared.feeds.Feeds.{Feeds}
+use Rattle.hdl_flatten.specs.declared.feeds.Feeds.TheVariants as feeds
 use Rattle.hdl_flatten.specs.Inner.Plans.{numbered_bits, end_gates, own_size, own_wires, driven_bits, driven_to, driven_by, all_driven, fed_bits, fed_by, all_sized, plan_or, plans_at, places, parts_driven, IsPartPlan, ArePartPlans, HavePlans, IsPlanned, ArePlans, AreAtHand, FollowNest}
 use Rattle.hdl_flatten.proofs.Lists.{assoc, get_there, get_front, last_or}
 use Rattle.hdl_flatten.proofs.Wiring.{found-append, more_then}
@@ -116,6 +119,10 @@ origins_same es fs [] h = refl
 origins_same es fs (b ∷ bits) h =
     ap (λ (t : List Origin). origin_at es b.name b.bit ∷ t) (origins_same es fs bits h) ∙ ap (λ (o : Option Origin). unwrap_or o Low ∷ origins_at fs bits) (h b.name b.bit)
 
+pub few_same : (f : Feeds) (bits more : List BitOf) (es fs : List (BitOf × Origin)) → bits ≡ more → ((name : List ℕ) (bit : ℕ) → found_bit name bit es ≡ found_bit name bit fs) → FewAre f bits es → FewAre f more fs
+few_same (feeds.All v) bits more es fs e h few = tt
+few_same (feeds.Few pins w) bits more es fs e h few = (few.0 ∙ e, λ name bit. few.1 name bit ∙ h name bit)
+
 -- ---- one connection
 
 pub drive_is : (inner : List (BitOf × Origin)) (offset : ℕ) (port : Port) (conn : Connection) (w : Selection) (pin name : List ℕ) (from to k : ℕ) → pin ≡ conn.pin.name → from ≡ first conn.pin.subscript → name ≡ w.name → to ≡ first w.subscript → k ≡ count conn.pin.subscript port.width → port.input ≡ false → conn.source ≡ source.Net w →
@@ -155,6 +162,7 @@ module _ (chips : Chips) (nest : List Nested) (plans : List Plan) (nested : Nest
   at_hand planned = record {
     within = at_below chips nest (length plans) (parts_of chips is.chip) nested.parts.items is.parts;
     there = λ i plan e. (planned i plan e).there;
+    inputs = λ i plan e. (planned i plan e).inputs;
   }
 
   pub parts_long : (chip : Entry) → slice_get chips.entries nested.number ≡ Some chip → length nested.parts.items ≡ length (parts_of chips chip)

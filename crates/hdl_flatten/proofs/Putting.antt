@@ -1,6 +1,6 @@
 -- Chips that are put one after another.
 use Rattle.std.proofs.Common.{◌≡◌, ℕ, zero, suc, ◌+◌, ◌<◌, ◌≤◌, ◌⊎◌, inl, inr, Bool, true, false, cond, take, drop, get_or, Result, Ok, Err, OnOk, List, [], ◌∷◌, ◌++◌, length, length-append, Option, Some, None, map, refl, sym, ap, subst, ◌∙◌, arith}
-use Rattle.std.specs.Prelude.{slice_get, slice_index, slice_index_or}
+use Rattle.std.specs.Prelude.{slice_get, slice_index, slice_index_or, unwrap_or}
 use Rattle.std.specs.List.{All}
 use Rattle.hdl_tree.specs.declared.tree.Part.{Part}
 use Rattle.hdl_tree.specs.declared.library.Entry.{Entry}
@@ -30,7 +30,11 @@ use Rattle.hdl_flatten.specs.Trees.{end_nodes, PartIn, AreListed, none, next, wi
 use Rattle.hdl_flatten.specs.Flat.{Reads, nodes_at, block_at, part_at}
 use Rattle.hdl_flatten.specs.Ends.{end_inputs, EndsHavePins}
 use Rattle.hdl_flatten.specs.Inner.Sizes.{joined_size}
-use Rattle.hdl_flatten.specs.Inner.Plans.{ArePlans, IsPlanned, IsPartPlan, HasPlan, HavePlans, ArePartPlans, all_sized, all_fed, own_size, places}
+use Rattle.hdl_flatten.specs.Inner.Feeds.{feed_origins, FewAre}
+use Rattle.hdl_flatten.specs.Inner.Fed.{MayFeed}
+use Rattle.hdl_flatten.specs.declared.feeds.Feeds.{Feeds}
+use Rattle.hdl_flatten.specs.declared.feeds.Feeds.TheVariants as feeds
+use Rattle.hdl_flatten.specs.Inner.Plans.{ArePlans, IsPlanned, IsPartPlan, HasPlan, HavePlans, ArePartPlans, all_sized, part_entries, all_fed, own_size, places}
 use Rattle.hdl_flatten.specs.Inner.Puts.{node_of, EndPut, IsPlaced}
 use Rattle.hdl_flatten.specs.Inner.Wired.{bit_of, wires_of, origin_at, origins_at}
 use Rattle.hdl_flatten.specs.Inner.Putting.{IsWithin, AreWithin, pins, words, end_puts, end_blocks, rom_of, memory_of, IsEndFed, MayPut, Longer, ReadsBelow, HasWords, IsPut, Instance, listed_by, tree_of, IsInstance, AreInstances, no_more, one_more, IsGoing}
@@ -65,7 +69,7 @@ instance_at chip (s ∷ ss) (suc j) = instance_at chip ss j
 
 module _ (chips : Chips) (net : Net) (base : ℕ) (inputs : List ℕ) where
   instance_there : (chip : Entry) (ps : List Part) (xs : List Plan) (qs : List PartPlan) (ss : List Instance) → AreInstances chips net base inputs ps xs qs ss → (j : ℕ) (x : Plan) (q : PartPlan) → slice_get xs j ≡ Some x → slice_get qs j ≡ Some q →
-      IsPlaced chips net x (base + q.offset) (map (node_of base inputs) q.origins.items) (instance_at chip ss j).block (instance_at chip ss j).at
+      IsPlaced chips net x (base + q.offset) (map (node_of base inputs) (feed_origins q.feeds)) (instance_at chip ss j).block (instance_at chip ss j).at
   instance_there chip [] [] [] [] no_more j x q e f = absurd cc
   instance_there chip [] [] [] (s ∷ ss) h j x q e f = elim h [ ]
   instance_there chip [] [] (r ∷ rs) ss h j x q e f = elim h [ ]
@@ -76,8 +80,8 @@ module _ (chips : Chips) (net : Net) (base : ℕ) (inputs : List ℕ) where
   instance_there chip (p ∷ ps) (y ∷ ys) (r ∷ rs) (s ∷ ss) (one_more one more) zero x q e f =
       let same_x : y ≡ x = cc in
       let same_q : r ≡ q = cc in
-      subst (λ (z : Plan). IsPlaced chips net z (base + q.offset) (map (node_of base inputs) q.origins.items) s.block s.at) same_x
-      (subst (λ (z : PartPlan). IsPlaced chips net y (base + z.offset) (map (node_of base inputs) z.origins.items) s.block s.at) same_q one.placed)
+      subst (λ (z : Plan). IsPlaced chips net z (base + q.offset) (map (node_of base inputs) (feed_origins q.feeds)) s.block s.at) same_x
+      (subst (λ (z : PartPlan). IsPlaced chips net y (base + z.offset) (map (node_of base inputs) (feed_origins z.feeds)) s.block s.at) same_q one.placed)
   instance_there chip (p ∷ ps) (y ∷ ys) (r ∷ rs) (s ∷ ss) (one_more one more) (suc j) x q e f = instance_there chip ps ys rs ss more j x q e f
 
   instances_listed : (i : ℕ) (ps : List Part) (xs : List Plan) (qs : List PartPlan) (ss : List Instance) → AreInstances chips net base inputs ps xs qs ss → AreListed chips i ps (tree_of i ss)
@@ -252,6 +256,11 @@ wider n m k (Gate j) h f = omega (arith, h, f)
 pub all_wider : (n m k : ℕ) (os : List Origin) → m ≤ k → All (IsWithin n m) os → All (IsWithin n k) os
 all_wider n m k os h f j d lt = wider n m k (slice_index_or os j d) h (f j d lt)
 
+pub may_feed : (n m : ℕ) (f : Feeds) (bits : List BitOf) (es : List (BitOf × Origin)) → m ≤ 16777216 → All (IsWithin n 16777216) (feed_origins f) → FewAre f bits es → AreWithin n m es → MayFeed n f bits
+may_feed n m (feeds.All v) bits es small far few good = far
+may_feed n m (feeds.Few of_pins w) bits es small far few good =
+    (few.0, λ name bit. subst (λ (o : Option Origin). IsWithin n 16777216 (unwrap_or o Low)) (sym (few.1 name bit)) (wider n m 16777216 (origin_at es name bit) small (good name bit)))
+
 -- ---- the next part
 
 pub all_one : {X : Type 0} (P : X → Type 0) (x : X) → P x → All P (x ∷ [])
@@ -293,22 +302,23 @@ module _ (chips : Chips) (plans : List Plan) (place : ℕ) (plan : Plan) (inputs
   pub small_part : next_part.x.size.nodes ≤ 16777216
   small_part = let f = fits.1 in omega (arith, f, room)
 
-  pub fed_within : All (IsWithin (length inputs) plan.size.nodes) q.origins.items
-  fed_within = subst (λ (os : List Origin). All (IsWithin (length inputs) plan.size.nodes) os) (sym next_part.is.origins)
-      (with_origins (length inputs) plan.size.nodes (all_fed (wires_of plan.wires) (ports_of next_part.x.entry.now.chip) next_part.p.connections)
-      (with_all_fed (length inputs) plan.size.nodes (wires_of plan.wires) (subst (λ (n : ℕ). AreWithin n plan.size.nodes (wires_of plan.wires)) (sym long) (chip_within chips plans are pins place plan there (omega (arith, room)))) (ports_of next_part.x.entry.now.chip) next_part.p.connections)
-      (map bit_of next_part.x.inputs.items))
+  pub fed_good : AreWithin (length inputs) plan.size.nodes (part_entries (wires_of plan.wires) next_part.p next_part.x)
+  fed_good = with_all_fed (length inputs) plan.size.nodes (wires_of plan.wires) (subst (λ (n : ℕ). AreWithin n plan.size.nodes (wires_of plan.wires)) (sym long) (chip_within chips plans are pins place plan there (omega (arith, room)))) (ports_of next_part.x.entry.now.chip) next_part.p.connections
 
-  pub fed_long : length q.origins.items ≡ length next_part.x.inputs.items
+  pub fed_within : All (IsWithin (length inputs) plan.size.nodes) (feed_origins q.feeds)
+  fed_within = subst (λ (os : List Origin). All (IsWithin (length inputs) plan.size.nodes) os) (sym next_part.is.origins)
+      (with_origins (length inputs) plan.size.nodes (part_entries (wires_of plan.wires) next_part.p next_part.x) fed_good (map bit_of next_part.x.inputs.items))
+
+  pub fed_long : length (feed_origins q.feeds) ≡ length next_part.x.inputs.items
   fed_long = ap length next_part.is.origins ∙ length_origins (all_fed (wires_of plan.wires) (ports_of next_part.x.entry.now.chip) next_part.p.connections) (map bit_of next_part.x.inputs.items) ∙ length_map next_part.x.inputs.items
 
-  pub outs_within : All (IsWithin (length q.origins.items) next_part.x.size.nodes) next_part.x.outs.items
+  pub outs_within : All (IsWithin (length (feed_origins q.feeds)) next_part.x.size.nodes) next_part.x.outs.items
   outs_within =
       let y = are q.place next_part.x next_part.has.at in
-      subst (λ (os : List Origin). All (IsWithin (length q.origins.items) next_part.x.size.nodes) os) (sym y.outs)
-      (with_origins (length q.origins.items) next_part.x.size.nodes (wires_of next_part.x.wires) (subst (λ (n : ℕ). AreWithin n next_part.x.size.nodes (wires_of next_part.x.wires)) (sym fed_long) (chip_within chips plans are pins q.place next_part.x next_part.has.at small_part)) (all_bits next_part.x.entry.now.chip.outputs))
+      subst (λ (os : List Origin). All (IsWithin (length (feed_origins q.feeds)) next_part.x.size.nodes) os) (sym y.outs)
+      (with_origins (length (feed_origins q.feeds)) next_part.x.size.nodes (wires_of next_part.x.wires) (subst (λ (n : ℕ). AreWithin n next_part.x.size.nodes (wires_of next_part.x.wires)) (sym fed_long) (chip_within chips plans are pins q.place next_part.x next_part.has.at small_part)) (all_bits next_part.x.entry.now.chip.outputs))
 
-  pub may_put : (nodes : List ℕ) (mid : Growing) → nodes ≡ map (node_of (length old.nodes.items) inputs) q.origins.items → mid.nodes.items ≡ now.nodes.items → mid.blocks.items ≡ now.blocks.items → MayPut plans q.place nodes mid
+  pub may_put : (nodes : List ℕ) (mid : Growing) → nodes ≡ map (node_of (length old.nodes.items) inputs) (feed_origins q.feeds) → mid.nodes.items ≡ now.nodes.items → mid.blocks.items ≡ now.blocks.items → MayPut plans q.place nodes mid
   may_put nodes mid e f h =
       let fit = fits.1 in
       let size = g.size in
@@ -318,12 +328,12 @@ module _ (chips : Chips) (plans : List Plan) (place : ℕ) (plan : Plan) (inputs
       record {
         plan = next_part.x;
         there = next_part.has.at;
-        long = ap length e ∙ length_nodes (node_of (length old.nodes.items) inputs) q.origins.items ∙ fed_long;
+        long = ap length e ∙ length_nodes (node_of (length old.nodes.items) inputs) (feed_origins q.feeds) ∙ fed_long;
         room = omega (arith, fit, size, ln, room);
         few = omega (arith, few, ln, lb);
       }
 
-  pub part_put : (nodes : List ℕ) (mid new : Growing) (listed : PartAt) → nodes ≡ map (node_of (length old.nodes.items) inputs) q.origins.items → mid.nodes.items ≡ now.nodes.items → mid.blocks.items ≡ now.blocks.items → mid.parts ≡ now.parts ++ listed ∷ [] →
+  pub part_put : (nodes : List ℕ) (mid new : Growing) (listed : PartAt) → nodes ≡ map (node_of (length old.nodes.items) inputs) (feed_origins q.feeds) → mid.nodes.items ≡ now.nodes.items → mid.blocks.items ≡ now.blocks.items → mid.parts ≡ now.parts ++ listed ∷ [] →
       listed.chip ≡ next_part.x.entry.now.name → listed.outs ≡ map (node_of (length now.nodes.items) nodes) next_part.x.outs.items → listed.block ≡ block_at next_part.x.end (length now.blocks.items) → IsPut chips next_part.x nodes mid new → IsGoing chips plans place plan inputs old new qs
   part_put nodes mid new listed e f h k name outs block put =
       let base = length old.nodes.items in
@@ -370,9 +380,9 @@ module _ (chips : Chips) (plans : List Plan) (place : ℕ) (plan : Plan) (inputs
             let few = longer_length now.blocks.items new.blocks.items grows_blocks in
             let before = g.reads n2 m a b c (omega (arith, few, d)) r in
             let fit = fits.1 in
-            let fed : All (λ i. i < n2) nodes = subst (λ (t : List ℕ). All (λ i. i < n2) t) (sym e) (nodes_below base inputs (length inputs) plan.size.nodes n2 refl a b c q.origins.items fed_within) in
-            let fed_count : length nodes ≡ length q.origins.items = ap length e ∙ length_nodes (node_of base inputs) q.origins.items in
-            let outs_below : All (λ i. i < n2) listed.outs = subst (λ (t : List ℕ). All (λ i. i < n2) t) (sym outs) (nodes_below (length now.nodes.items) nodes (length q.origins.items) x.size.nodes n2 fed_count fed b (omega (arith, c, fit, g.size)) x.outs.items outs_within) in
+            let fed : All (λ i. i < n2) nodes = subst (λ (t : List ℕ). All (λ i. i < n2) t) (sym e) (nodes_below base inputs (length inputs) plan.size.nodes n2 refl a b c (feed_origins q.feeds) fed_within) in
+            let fed_count : length nodes ≡ length (feed_origins q.feeds) = ap length e ∙ length_nodes (node_of base inputs) (feed_origins q.feeds) in
+            let outs_below : All (λ i. i < n2) listed.outs = subst (λ (t : List ℕ). All (λ i. i < n2) t) (sym outs) (nodes_below (length now.nodes.items) nodes (length (feed_origins q.feeds)) x.size.nodes n2 fed_count fed b (omega (arith, c, fit, g.size)) x.outs.items outs_within) in
             put.reads n2 m fed b (omega (arith, c, fit, sized)) d
             (record {
               nodes = subst (λ (t : List Node). All (Reads n2 m) t) (sym f) before.nodes;
@@ -381,8 +391,8 @@ module _ (chips : Chips) (plans : List Plan) (place : ℕ) (plan : Plan) (inputs
             });
         words = λ w. put.words (subst (λ (t : List Block). HasWords mid.nodes.items (length t)) (sym h) (subst (λ (t : List Node). HasWords t (length now.blocks.items)) (sym f) (g.words w)));
         stand = λ net a b tail t.
-            let placed : IsPlaced chips net x (base + q.offset) (map (node_of base inputs) q.origins.items) put.block put.at =
-            subst (λ (m : ℕ). IsPlaced chips net x m (map (node_of base inputs) q.origins.items) put.block put.at) stands (subst (λ (is : List ℕ). IsPlaced chips net x (length mid.nodes.items) is put.block put.at) e (put.placed net a b)) in
+            let placed : IsPlaced chips net x (base + q.offset) (map (node_of base inputs) (feed_origins q.feeds)) put.block put.at =
+            subst (λ (m : ℕ). IsPlaced chips net x m (map (node_of base inputs) (feed_origins q.feeds)) put.block put.at) stands (subst (λ (is : List ℕ). IsPlaced chips net x (length mid.nodes.items) is put.block put.at) e (put.placed net a b)) in
             let one : IsInstance chips net base inputs n.p x q s = record { found = n.has.found; listed = put.listed; counted = put.counted; placed = placed } in
             let all = g.stand net (longer_more now.nodes.items new.nodes.items net.nodes grows a) (longer_more now.blocks.items new.blocks.items net.blocks grows_blocks b) (s ∷ tail)
             (subst (λ (ps : List Part). AreInstances chips net base inputs ps g.plans_left (q ∷ qs) (s ∷ tail)) (sym n.parts_are) (subst (λ (xs : List Plan). AreInstances chips net base inputs (n.p ∷ n.others) xs (q ∷ qs) (s ∷ tail)) (sym n.plans_are) (one_more one t))) in
@@ -620,9 +630,6 @@ module _ (chips : Chips) (plans : List Plan) (place : ℕ) (plan : Plan) (inputs
   pub head_next : NextPart chips plans place plan h.going.parts_left h.going.plans_left h.going.sum q qs
   head_next = next_part chips plans place plan inputs old now q qs h.are h.pins h.there h.long h.room h.going
 
-  pub head_fed : All (IsWithin (length inputs) 16777216) q.origins.items
-  head_fed = let room = h.room in all_wider (length inputs) plan.size.nodes 16777216 q.origins.items (omega (arith, room)) (fed_within chips plans place plan inputs old now q qs h.are h.pins h.there h.long h.room h.going)
-
   pub head_place : q.place < length plans
   head_place = slice_get_within plans q.place head_next.x head_next.has.at
 
@@ -645,20 +652,29 @@ module _ (chips : Chips) (plans : List Plan) (place : ℕ) (plan : Plan) (inputs
     pub head_entry : slice_get chips.entries y.number ≡ Some y.entry.now
     head_entry = (h.are q.place y (plan_there plans q.place head_next.x y head_next.has.at is).0).there
 
-    pub head_outs : (nodes : List ℕ) → nodes ≡ map (node_of (length old.nodes.items) inputs) q.origins.items → All (IsWithin (length nodes) 16777216) y.outs.items
+    pub head_fed : MayFeed (length inputs) q.feeds (map bit_of y.inputs.items)
+    unfolding head_next next_part
+    head_fed =
+        let room = h.room in
+        let good = fed_good chips plans place plan inputs old now q qs h.are h.pins h.there h.long h.room h.going in
+        let far = all_wider (length inputs) plan.size.nodes 16777216 (feed_origins q.feeds) (omega (arith, room)) (fed_within chips plans place plan inputs old now q qs h.are h.pins h.there h.long h.room h.going) in
+        subst (λ (x : Plan). MayFeed (length inputs) q.feeds (map bit_of x.inputs.items)) head_same
+        (may_feed (length inputs) plan.size.nodes q.feeds (map bit_of head_next.x.inputs.items) (part_entries (wires_of plan.wires) head_next.p head_next.x) (omega (arith, room)) far head_next.is.few good)
+
+    pub head_outs : (nodes : List ℕ) → nodes ≡ map (node_of (length old.nodes.items) inputs) (feed_origins q.feeds) → All (IsWithin (length nodes) 16777216) y.outs.items
     unfolding head_next next_part
     head_outs nodes e =
         let small = small_part chips plans place plan inputs old now q qs h.are h.pins h.there h.long h.room h.going in
-        subst (λ (n : ℕ). All (IsWithin n 16777216) y.outs.items) (sym (ap length e ∙ length_nodes (node_of (length old.nodes.items) inputs) q.origins.items))
-        (subst (λ (x : Plan). All (IsWithin (length q.origins.items) 16777216) x.outs.items) head_same
-        (all_wider (length q.origins.items) head_next.x.size.nodes 16777216 head_next.x.outs.items small (outs_within chips plans place plan inputs old now q qs h.are h.pins h.there h.long h.room h.going)))
+        subst (λ (n : ℕ). All (IsWithin n 16777216) y.outs.items) (sym (ap length e ∙ length_nodes (node_of (length old.nodes.items) inputs) (feed_origins q.feeds)))
+        (subst (λ (x : Plan). All (IsWithin (length (feed_origins q.feeds)) 16777216) x.outs.items) head_same
+        (all_wider (length (feed_origins q.feeds)) head_next.x.size.nodes 16777216 head_next.x.outs.items small (outs_within chips plans place plan inputs old now q qs h.are h.pins h.there h.long h.room h.going)))
 
-    pub head_put : (nodes : List ℕ) (mid new : Growing) (listed : PartAt) → nodes ≡ map (node_of (length old.nodes.items) inputs) q.origins.items → mid.nodes.items ≡ now.nodes.items → mid.blocks.items ≡ now.blocks.items → mid.parts ≡ now.parts ++ listed ∷ [] →
+    pub head_put : (nodes : List ℕ) (mid new : Growing) (listed : PartAt) → nodes ≡ map (node_of (length old.nodes.items) inputs) (feed_origins q.feeds) → mid.nodes.items ≡ now.nodes.items → mid.blocks.items ≡ now.blocks.items → mid.parts ≡ now.parts ++ listed ∷ [] →
         listed.chip ≡ y.entry.now.name → listed.outs ≡ map (node_of (length now.nodes.items) nodes) y.outs.items → listed.block ≡ block_at y.end (length now.blocks.items) → ((x : Plan) → slice_get plans q.place ≡ Some x → IsPut chips x nodes mid new) → IsGoing chips plans place plan inputs old new qs
     unfolding head_next next_part
     head_put nodes mid new listed e f g k name outs block put =
         part_put chips plans place plan inputs old now q qs h.are h.pins h.there h.long h.room h.going nodes mid new listed e f g k
         (name ∙ ap (λ (x : Plan). x.entry.now.name) (sym head_same)) (outs ∙ ap (λ (x : Plan). map (node_of (length now.nodes.items) nodes) x.outs.items) (sym head_same)) (block ∙ ap (λ (x : Plan). block_at x.end (length now.blocks.items)) (sym head_same)) (put head_next.x head_next.has.at)
 
-  pub head_may : (nodes : List ℕ) (mid : Growing) → nodes ≡ map (node_of (length old.nodes.items) inputs) q.origins.items → mid.nodes.items ≡ now.nodes.items → mid.blocks.items ≡ now.blocks.items → MayPut plans q.place nodes mid
+  pub head_may : (nodes : List ℕ) (mid : Growing) → nodes ≡ map (node_of (length old.nodes.items) inputs) (feed_origins q.feeds) → mid.nodes.items ≡ now.nodes.items → mid.blocks.items ≡ now.blocks.items → MayPut plans q.place nodes mid
   head_may = may_put chips plans place plan inputs old now q qs h.are h.pins h.there h.long h.room h.going

@@ -11,6 +11,7 @@ use Rattle.hdl_flatten.specs.declared.plan.Plan.{Plan}
 use Rattle.hdl_flatten.specs.declared.plan.PartPlan.{PartPlan}
 use Rattle.hdl_flatten.specs.Inner.Sizes.{joined_size}
 use Rattle.hdl_flatten.specs.Inner.Wired.{wires_of, origin_at}
+use Rattle.hdl_flatten.specs.Inner.Feeds.{feed_origins}
 use Rattle.hdl_flatten.specs.Inner.Plans.{moved_by, all_sized, part_origins, places, HavePlans, ArePartPlans}
 use Rattle.hdl_flatten.proofs.Bridges.{gate_at}
 
@@ -32,7 +33,7 @@ pub record Slot (chips : Chips) (plans : List Plan) (n : ℕ) (wires : List (Bit
   pub found : find_chip chips p.chip ≡ Some x.entry.now
   pub plan_there : slice_get xs j ≡ Some x
   pub part_there : slice_get qs j ≡ Some q
-  pub origins : q.origins.items ≡ part_origins wires p x
+  pub origins : (feed_origins q.feeds) ≡ part_origins wires p x
   pub gate : (m : ℕ) (pin : List ℕ) (bit : ℕ) → m ≡ i + j → gate_at size i xs (record { part = m; pin = pin; bit = bit }) ≡ moved_by q.offset (origin_at (wires_of x.wires) pin bit)
   pub fits : q.offset + x.size.nodes ≤ (all_sized size xs).nodes
 

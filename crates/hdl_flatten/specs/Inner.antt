@@ -2,6 +2,8 @@ pub mod Nests
 pub mod Visits
 pub mod Sizes
 pub mod Wired
+pub mod Feeds
+pub mod Fed
 pub mod Plans
 pub mod Puts
 pub mod Putting

@@ -16,12 +16,14 @@ ghost use Rattle.hdl_flatten.specs.Inner.Wired.{wires_of};
 ghost use Rattle.hdl_flatten.specs.Inner.Plans.{ArePlans};
 ghost use Rattle.hdl_flatten.specs.Inner.Puts.{node_of};
 ghost use Rattle.hdl_flatten.specs.Inner.Unfinished.{Task, ArePending, CanBegin, IsBegun, all_steps};
+ghost use Rattle.hdl_flatten.specs.Inner.Fed.{nodes_in};
 ghost use Rattle.hdl_flatten.specs.Inner.Putting.{IsWithin, AreWithin, own_nodes, from_two, constants, pins, words, end_puts, end_blocks, rom_of, memory_of, IsEndFed, MayPut, IsPut};
 
+use crate::feeds::{Inputs, LOW, node_of, nodes_of};
 use crate::nest::{entry_at, nest_of};
 use crate::parts::Parts;
 use crate::plan::{PartPlan, Plan, plans_of};
-use crate::wires::{Bit, Origin, Wires};
+use crate::wires::{Bit, Wires};
 use hdl_check::Catalog;
 use hdl_tree::{End, Library, List, Memories, Name, Pin};
 use netlist::{Block, Node};
@@ -49,42 +51,6 @@ pub struct Flat {
     pub blocks: List<Block>,
     pub pins: List<PinAt>,
     pub parts: Parts,
-}
-
-/// The nodes of the constants.
-const LOW: u32 = 0;
-
-const HIGH: u32 = 1;
-
-/// The node of a bit of a chip whose nodes begin at base.
-fn node_of(origin: Origin, base: usize, inputs: &[u32]) -> u32
-    requires base { base ≤ 16777216 }
-    requires within { IsWithin (length inputs.now) 16777216 origin }
-    ensures { result ≡ node_of base inputs.now origin }
-{
-    match origin {
-        Origin::Low => LOW,
-        Origin::High => HIGH,
-        Origin::Input(k) => inputs[k],
-        Origin::Gate(k) => base as u32 + k,
-    }
-}
-
-fn nodes_of(
-    alloc: Global,
-    origins: &[Origin],
-    base: usize,
-    inputs: &[u32],
-) -> Result<Vec<u32>, AllocError>
-    requires base { base ≤ 16777216 }
-    requires within { All (IsWithin (length inputs.now) 16777216) origins.now }
-    ensures { IfOk result (λ v. v.items ≡ map (node_of base inputs.now) origins.now) }
-{
-    let mut nodes = Vec::new(alloc);
-    for origin in origins {
-        nodes.push(node_of(*origin, base, inputs))?;
-    }
-    Ok(nodes)
 }
 
 /// The nodes and blocks so far, and the parts.
@@ -199,21 +165,27 @@ fn rom_block(alloc: Global, inputs: &[u32]) -> Result<Block, AllocError>
 }
 
 /// Puts an end after what is there; the nodes of its input bits are given.
-fn put_end(alloc: Global, end: End, inputs: &[u32], flat: &mut Growing) -> Result<(), AllocError>
-    requires fed { IsEndFed end (length inputs.now) }
+fn put_end<'a, 'b>(
+    alloc: Global,
+    end: End,
+    inputs: &Inputs<'a, 'b>,
+    flat: &mut Growing,
+) -> Result<(), AllocError>
+    requires fed { IsEndFed end (length (nodes_in inputs.now)) }
     requires few { length flat.old.blocks.items ≤ 16777216 }
     ensures nodes { OnOk result (flat.new.nodes.items
-        ≡ flat.old.nodes.items ++ end_puts end inputs.now (length flat.old.blocks.items)) }
+        ≡ flat.old.nodes.items
+        ++ end_puts end (nodes_in inputs.now) (length flat.old.blocks.items)) }
     ensures blocks { OnOk result
-        (flat.new.blocks.items ≡ flat.old.blocks.items ++ end_blocks end inputs.now) }
+        (flat.new.blocks.items ≡ flat.old.blocks.items ++ end_blocks end (nodes_in inputs.now)) }
     ensures parts { flat.new.parts ≡ flat.old.parts }
 {
     match end {
-        End::Nand => push_node(&mut flat.nodes, Node::Nand(inputs[0], inputs[1])),
-        End::Dff => push_node(&mut flat.nodes, Node::Flip(inputs[0])),
+        End::Nand => push_node(&mut flat.nodes, Node::Nand(inputs.node(0), inputs.node(1))),
+        End::Dff => push_node(&mut flat.nodes, Node::Flip(inputs.node(0))),
         End::Keyboard => put_pins(&mut flat.nodes, 16),
-        End::Rom => put_block(flat, rom_block(alloc, inputs)?),
-        End::Block(bits) => put_block(flat, memory_block(alloc, bits, inputs)?),
+        End::Rom => put_block(flat, rom_block(alloc, &inputs.all(alloc)?)?),
+        End::Block(bits) => put_block(flat, memory_block(alloc, bits, &inputs.all(alloc)?)?),
     }
 }
 
@@ -229,22 +201,22 @@ fn block_of(end: Option<End>, number: usize) -> Option<u32>
 }
 
 /// A part that is put next, where this many nodes and blocks are there.
-fn part_at<'a>(
+fn part_at<'a, 'b>(
     alloc: Global,
     catalog: &Catalog<'a>,
     plan: &Plan<'a>,
-    inputs: &[u32],
+    inputs: &Inputs<'a, 'b>,
     base: usize,
     number: usize,
 ) -> Result<PartAt, AllocError>
     requires there { plan.now.number < length catalog.now.entries.now }
     requires base { base ≤ 16777216 }
-    requires within { All (IsWithin (length inputs.now) 16777216) plan.now.outs.items }
+    requires within { All (IsWithin (length (nodes_in inputs.now)) 16777216) plan.now.outs.items }
     requires number { number ≤ 16777216 }
     ensures chip { IfOk result (λ part. (chip : Entry)
         → slice_get catalog.now.entries.now plan.now.number ≡ Some chip → part.chip ≡ chip.name) }
     ensures outs { IfOk result
-        (λ part. part.outs ≡ map (node_of base inputs.now) plan.now.outs.items) }
+        (λ part. part.outs ≡ map (node_of base (nodes_in inputs.now)) plan.now.outs.items) }
     ensures block { IfOk result (λ part. part.block ≡ block_at plan.now.end number) }
 {
     Ok(PartAt {
@@ -256,13 +228,16 @@ fn part_at<'a>(
 
 /// A chip with some of its parts put: where its nodes begin, the nodes of its input bits, and the parts that are to come.
 #[derive(Drop)]
-pub(crate) struct Unfinished<'b> {
+pub(crate) struct Unfinished<'a, 'b> {
     pub base: usize,
-    pub inputs: Vec<u32>,
-    pub rest: &'b [PartPlan],
+    pub inputs: Inputs<'a, 'b>,
+    pub rest: &'b [PartPlan<'a>],
 }
 
-fn push<'b>(stack: &mut Vec<Unfinished<'b>>, chip: Unfinished<'b>) -> Result<(), AllocError>
+fn push<'a, 'b>(
+    stack: &mut Vec<Unfinished<'a, 'b>>,
+    chip: Unfinished<'a, 'b>,
+) -> Result<(), AllocError>
     ensures { OnOk result (stack.new.items ≡ stack.old.items ++ chip.entry ∷ []) }
 {
     stack.push(chip)?;
@@ -273,13 +248,14 @@ fn push<'b>(stack: &mut Vec<Unfinished<'b>>, chip: Unfinished<'b>) -> Result<(),
 fn enter<'a, 'b>(
     alloc: Global,
     plan: &'b Plan<'a>,
-    inputs: Vec<u32>,
+    inputs: Inputs<'a, 'b>,
     flat: &mut Growing,
-    stack: &mut Vec<Unfinished<'b>>,
+    stack: &mut Vec<Unfinished<'a, 'b>>,
 ) -> Result<(), AllocError>
-    requires { CanBegin plan.now inputs.items flat.old }
+    requires { CanBegin plan.now (nodes_in inputs) flat.old }
     ensures { OnOk result
-        (IsBegun plan.now inputs.items flat.old flat.new stack.old.items stack.new.items) }
+        (IsBegun plan.now (nodes_in inputs.entry) flat.old flat.new
+        stack.old.items stack.new.items) }
 {
     match plan.end {
         Some(end) => put_end(alloc, end, &inputs, flat),
@@ -300,8 +276,8 @@ fn step<'a, 'b>(
     catalog: &Catalog<'a>,
     plans: &'b [Plan<'a>],
     flat: &mut Growing,
-    stack: &mut Vec<Unfinished<'b>>,
-    chip: Unfinished<'b>,
+    stack: &mut Vec<Unfinished<'a, 'b>>,
+    chip: Unfinished<'a, 'b>,
 ) -> Result<(), AllocError>
     requires catalog { IsCatalog catalog.now }
     requires ends { EndsHavePins (chips_of catalog.now) }
@@ -318,7 +294,9 @@ fn step<'a, 'b>(
         return Ok(());
     };
     let plan = &plans[part.place];
-    let nodes = nodes_of(alloc, &part.origins, chip.base, &chip.inputs)?;
+    let nodes = part
+        .feeds
+        .nodes(alloc, &plan.inputs, chip.base, &chip.inputs)?;
     let listed = part_at(
         alloc,
         catalog,
@@ -356,8 +334,8 @@ fn put<'a>(
         → IsPut (chips_of catalog.now) plan inputs.now flat.old flat.new) }
 {
     let mut stack = Vec::new(alloc);
-    let inputs = Vec::from_slice(alloc, inputs)?;
-    enter(alloc, &plans[place], inputs, flat, &mut stack)?;
+    let nodes = Vec::from_slice(alloc, inputs)?;
+    enter(alloc, &plans[place], Inputs::All(nodes), flat, &mut stack)?;
     'chips: while let Some(chip) = stack.pop() {
         step(alloc, catalog, plans, flat, &mut stack, chip)?;
     }
@@ -365,18 +343,18 @@ fn put<'a>(
 }
 
 /// A pin in the directory of the chip whose nodes begin at base.
-fn pin_at<'a>(
+fn pin_at<'a, 'b>(
     alloc: Global,
     wires: &Wires<'a>,
     base: usize,
-    inputs: &[u32],
+    inputs: &Inputs<'a, 'b>,
     pin: &'a Pin,
 ) -> Result<PinAt, AllocError>
     requires base { base ≤ 16777216 }
-    requires within { AreWithin (length inputs.now) 16777216 (wires_of wires.now) }
+    requires within { AreWithin (length (nodes_in inputs.now)) 16777216 (wires_of wires.now) }
     ensures name { IfOk result (λ at. at.name ≡ pin.now.name) }
     ensures nodes { IfOk result
-        (λ at. at.nodes ≡ nodes_at (own_nodes (wires_of wires.now) base inputs.now)
+        (λ at. at.nodes ≡ nodes_at (own_nodes (wires_of wires.now) base (nodes_in inputs.now))
         (bits_of pin.now.name 0 (pin_width pin.now))) }
 {
     let mut nodes = Vec::new(alloc);
@@ -394,18 +372,19 @@ fn pin_at<'a>(
 }
 
 /// The directory of pins of the chip whose nodes begin at base.
-fn list_pins<'a>(
+fn list_pins<'a, 'b>(
     alloc: Global,
     wires: &Wires<'a>,
     base: usize,
-    inputs: &[u32],
+    inputs: &Inputs<'a, 'b>,
     pins: &'a [Pin],
     listed: &mut Vec<PinAt>,
 ) -> Result<(), AllocError>
     requires base { base ≤ 16777216 }
-    requires within { AreWithin (length inputs.now) 16777216 (wires_of wires.now) }
+    requires within { AreWithin (length (nodes_in inputs.now)) 16777216 (wires_of wires.now) }
     ensures { OnOk result (listed.new.items ≡ listed.old.items
-        ++ map (Listed.pin_at (own_nodes (wires_of wires.now) base inputs.now)) pins.now) }
+        ++ map (Listed.pin_at
+        (own_nodes (wires_of wires.now) base (nodes_in inputs.now))) pins.now) }
 {
     for pin in pins {
         listed.push(pin_at(alloc, wires, base, inputs, pin)?)?;
@@ -414,18 +393,20 @@ fn list_pins<'a>(
 }
 
 /// The directory of all pins of the chip of this plan, whose nodes begin at base.
-fn directory<'a>(
+fn directory<'a, 'b>(
     alloc: Global,
     plan: &Plan<'a>,
     base: usize,
-    inputs: &[u32],
+    inputs: &Inputs<'a, 'b>,
 ) -> Result<Vec<PinAt>, AllocError>
     requires base { base ≤ 16777216 }
-    requires within { AreWithin (length inputs.now) 16777216 (wires_of plan.now.wires) }
+    requires within { AreWithin (length (nodes_in inputs.now)) 16777216 (wires_of plan.now.wires) }
     ensures { IfOk result
-        (λ v. v.items ≡ map (Listed.pin_at (own_nodes (wires_of plan.now.wires) base inputs.now))
+        (λ v. v.items ≡ map (Listed.pin_at
+        (own_nodes (wires_of plan.now.wires) base (nodes_in inputs.now)))
         plan.now.entry.now.chip.inputs ++ map (Listed.pin_at
-        (own_nodes (wires_of plan.now.wires) base inputs.now)) plan.now.entry.now.chip.outputs) }
+        (own_nodes (wires_of plan.now.wires) base (nodes_in inputs.now)))
+        plan.now.entry.now.chip.outputs) }
 {
     let chip = &plan.entry.chip;
     let mut listed = Vec::new(alloc);
@@ -496,6 +477,6 @@ pub fn flatten(
     let mut flat = begun(alloc, inputs.len(), plans.len())?;
     let base = flat.nodes.len();
     put(alloc, &catalog, &plans, nest.top, &inputs, &mut flat)?;
-    let pins = directory(alloc, plan, base, &inputs)?;
+    let pins = directory(alloc, plan, base, &Inputs::All(inputs))?;
     Ok(flat.with_pins(pins))
 }

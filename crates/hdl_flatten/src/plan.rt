@@ -12,9 +12,11 @@ ghost use Rattle.hdl_flatten.specs.Inner.Nests.{IsNest, IsNested};
 ghost use Rattle.hdl_flatten.specs.Trees.{all_bits};
 ghost use Rattle.hdl_flatten.specs.Inner.Sizes.{IsSmall};
 ghost use Rattle.hdl_flatten.specs.Inner.Wired.{bit_of, wires_of, found_bit, FindsMore};
-ghost use Rattle.hdl_flatten.specs.Inner.Plans.{numbered_bits, end_gates, moved_by, driven_by, all_driven, source_at, fed_by, all_fed, all_sized, parts_driven, part_origins, own_wires, ArePartPlans, plans_at, places, AreAtHand, IsPlanned, ArePlans, FollowNest};
+ghost use Rattle.hdl_flatten.specs.Inner.Plans.{numbered_bits, end_gates, moved_by, driven_by, all_driven, source_at, fed_by, all_fed, all_sized, parts_driven, part_entries, part_origins, own_wires, ArePartPlans, plans_at, places, AreAtHand, IsPlanned, ArePlans, FollowNest};
+ghost use Rattle.hdl_flatten.specs.Inner.Feeds.{feed_origins, FewAre};
 ghost use Rattle.hdl_flatten.specs.declared.wires.Origin.TheVariants.{Input, Gate};
 
+use crate::feeds::Feeds;
 use crate::nest::{Nested, entry_at, parts_in};
 use crate::size::{Size, add, count_nodes, join};
 use crate::wires::{Bit, Origin, Wires, bits_of_pins, origins_of};
@@ -25,10 +27,10 @@ use std::alloc::{AllocError, Global};
 
 /// A part: the place of its chip, the number of nodes of the chip before it, and what feeds each of its input bits.
 #[derive(Drop)]
-pub(crate) struct PartPlan {
+pub(crate) struct PartPlan<'a> {
     pub place: usize,
     pub offset: u32,
-    pub origins: Vec<Origin>,
+    pub feeds: Feeds<'a>,
 }
 
 /// The plan of a chip.
@@ -41,7 +43,7 @@ pub(crate) struct Plan<'a> {
     pub wires: Wires<'a>,
     /// What each output bit is.
     pub outs: Vec<Origin>,
-    pub parts: Vec<PartPlan>,
+    pub parts: Vec<PartPlan<'a>>,
 }
 
 // By hand, so that whoever drops one calls this.
@@ -305,21 +307,25 @@ fn plan_part<'a>(
     offset: u32,
     part: &'a Part,
     wires: &Wires<'a>,
-) -> Result<PartPlan, AllocError>
+) -> Result<PartPlan<'a>, AllocError>
     requires catalog { IsCatalog catalog.now }
     requires there { slice_get catalog.now.entries.now inner.now.number ≡ Some inner.now.entry.now }
+    requires inputs { map bit_of inner.now.inputs.items ≡ all_bits inner.now.entry.now.chip.inputs }
     ensures place { IfOk result (λ q. q.place ≡ place) }
     ensures offset { IfOk result (λ q. q.offset ≡ offset) }
     ensures origins { IfOk result
-        (λ q. q.origins.items ≡ part_origins (wires_of wires.now) part.now inner.now) }
+        (λ q. feed_origins q.feeds ≡ part_origins (wires_of wires.now) part.now inner.now) }
+    ensures few { IfOk result (λ q. FewAre q.feeds (map bit_of inner.now.inputs.items)
+        (part_entries (wires_of wires.now) part.now inner.now)) }
 {
     let ports = ports_at(catalog, inner.number);
     let fed = feed_all(alloc, wires, ports, part.connections.as_slice())?;
-    let origins = origins_of(alloc, &fed, &inner.inputs)?;
+    let pins = inner.entry.chip.inputs.as_slice();
+    let feeds = Feeds::of(alloc, fed, pins, &inner.inputs)?;
     Ok(PartPlan {
         place,
         offset,
-        origins,
+        feeds,
     })
 }
 
@@ -332,7 +338,7 @@ fn plan_parts<'a>(
     own: Size,
     parts: &'a [Part],
     wires: &Wires<'a>,
-) -> Result<Vec<PartPlan>, AllocError>
+) -> Result<Vec<PartPlan<'a>>, AllocError>
     requires catalog { IsCatalog catalog.now }
     requires small { IsSmall own }
     requires plans { AreAtHand (chips_of catalog.now) plans.now rs.now }

@@ -1,6 +1,6 @@
 //! What feeds the bits of pins and nets.
 
-ghost use Rattle.std.specs.Prelude.{◌≡◌, [], ◌∷◌, ◌++◌, OnOk, IfOk, map};
+ghost use Rattle.std.specs.Prelude.{◌≡◌, ◌<◌, [], ◌∷◌, ◌++◌, OnOk, IfOk, Some, length, map, slice_get};
 ghost use Rattle.hdl_check.specs.Tables.{bits_of};
 ghost use Rattle.hdl_flatten.specs.Trees.{all_bits};
 ghost use Rattle.hdl_flatten.specs.Inner.Wired.{found_bit, wires_of, bit_of, origin_at, origins_at, FindsMore};
@@ -57,6 +57,25 @@ impl<'a> Wires<'a> {
         ensures { result ≡ origin_at (wires_of self.now) bit.entry.name.now bit.entry.bit }
     {
         self.find(bit).unwrap_or(Origin::Low)
+    }
+
+    /// How many bits were entered.
+    pub(crate) fn len(&self) -> usize
+        ensures { result ≡ length (wires_of self.now) }
+    {
+        self.entries.len()
+    }
+
+    /// The bit that was entered in place k, and what feeds it.
+    pub(crate) fn entry(&self, k: usize) -> (Bit<'a>, Origin)
+        requires { k < length (wires_of self.now) }
+        ensures there { slice_get (wires_of self.now) k ≡ Some (bit_of result.0, result.1) }
+        ensures found { origin_at (wires_of self.now) result.0.name.now result.0.bit ≡ result.1 }
+    {
+        match self.entries.get_index(k) {
+            Some((bit, origin)) => (*bit, *origin),
+            None => unreachable!(),
+        }
     }
 
     /// Enters what feeds a bit, unless it was entered before.

@@ -19,6 +19,7 @@ use Rattle.hdl_flatten.specs.declared.plan.Plan.{Plan}
 use Rattle.hdl_flatten.specs.declared.plan.PartPlan.{PartPlan}
 use Rattle.hdl_flatten.specs.Trees.{capped_count, all_bits, chip_nodes}
 use Rattle.hdl_flatten.specs.Inner.Nests.{IsFine}
+use Rattle.hdl_flatten.specs.Inner.Feeds.{feed_origins, FewAre}
 use Rattle.hdl_flatten.specs.Inner.Sizes.{joined_size}
 use Rattle.hdl_flatten.specs.Inner.Wired.{bit_of, wires_of, origin_at, origins_at, found_bit}
 
@@ -83,12 +84,16 @@ parts_driven size (p ∷ ps) [] = []
 parts_driven size (p ∷ ps) (x ∷ xs) = all_driven (wires_of x.wires) size.nodes (ports_of x.entry.now.chip) p.connections ++ parts_driven (joined_size size x.size) ps xs
 
 -- what feeds the input bits of a part
+abbrev pub part_entries : List (BitOf × Origin) → Part → Plan → List (BitOf × Origin)
+part_entries wires p x = all_fed wires (ports_of x.entry.now.chip) p.connections
+
 abbrev pub part_origins : List (BitOf × Origin) → Part → Plan → List Origin
-part_origins wires p x = origins_at (all_fed wires (ports_of x.entry.now.chip) p.connections) (map bit_of x.inputs.items)
+part_origins wires p x = origins_at (part_entries wires p x) (map bit_of x.inputs.items)
 
 pub record IsPartPlan (wires : List (BitOf × Origin)) (size : Size) (p : Part) (x : Plan) (q : PartPlan) : Type 0 where
   pub offset : q.offset ≡ size.nodes
-  pub origins : q.origins.items ≡ part_origins wires p x
+  pub origins : feed_origins q.feeds ≡ part_origins wires p x
+  pub few : FewAre q.feeds (map bit_of x.inputs.items) (part_entries wires p x)
 
 abbrev pub ArePartPlans : List (BitOf × Origin) → Size → List Part → List Plan → List PartPlan → Type 0
 ArePartPlans wires size [] xs [] = Unit {0}
@@ -153,10 +158,11 @@ pub record IsPlanned (chips : Chips) (plans : List Plan) (i : ℕ) (plan : Plan)
 abbrev pub ArePlans : Chips → List Plan → Type 0
 ArePlans chips plans = (i : ℕ) (plan : Plan) → slice_get plans i ≡ Some plan → IsPlanned chips plans i plan
 
--- what the code wants of the plans at hand: each place has one, each of a chip that is there
+-- what the code wants of the plans at hand: each place has one, each of a chip that is there, with its input bits
 pub record AreAtHand (chips : Chips) (plans : List Plan) (rs : List ℕ) : Type 0 where
   pub within : (k d : ℕ) → k < length rs → slice_index_or rs k d < length plans
   pub there : (i : ℕ) (plan : Plan) → slice_get plans i ≡ Some plan → slice_get chips.entries plan.number ≡ Some plan.entry.now
+  pub inputs : (i : ℕ) (plan : Plan) → slice_get plans i ≡ Some plan → map bit_of plan.inputs.items ≡ all_bits plan.entry.now.chip.inputs
 
 -- the plans are those of the chips that stand first in a nest
 abbrev pub FollowNest : List Nested → List Plan → Type 0

@@ -22,6 +22,7 @@ use Rattle.hdl_flatten.specs.declared.flat.PartAt.{PartAt}
 use Rattle.hdl_flatten.specs.declared.flat.Growing.{Growing}
 use Rattle.hdl_flatten.specs.Trees.{PartIn, IsTree, within, capped_count, chip_nodes, part_nodes}
 use Rattle.hdl_flatten.specs.Flat.{Reads, block_at, part_at}
+use Rattle.hdl_flatten.specs.Inner.Feeds.{feed_origins}
 use Rattle.hdl_flatten.specs.Inner.Plans.{IsPlanned, HavePlans, ArePartPlans, all_sized, places}
 use Rattle.hdl_flatten.specs.Inner.Puts.{node_of, IsPlaced}
 use Rattle.hdl_flatten.specs.Inner.Wired.{wires_of, origin_at}
@@ -169,7 +170,7 @@ pub record IsInstance (chips : Chips) (net : Net) (base : ℕ) (inputs : List �
   pub found : find_chip chips p.chip ≡ Some s.chip
   pub listed : IsTree chips s.chip s.tree
   pub counted : x.size.nodes ≡ capped_count (chip_nodes chips s.chip + part_nodes chips s.tree)
-  pub placed : IsPlaced chips net x (base + q.offset) (map (node_of base inputs) q.origins.items) s.block s.at
+  pub placed : IsPlaced chips net x (base + q.offset) (map (node_of base inputs) (feed_origins q.feeds)) s.block s.at
 
 pub data AreInstances (chips : Chips) (net : Net) (base : ℕ) (inputs : List ℕ) : List Part → List Plan → List PartPlan → List Instance → Type 0 where
   no_more : AreInstances chips net base inputs [] [] [] []

@@ -8,6 +8,7 @@ use Rattle.hdl_flatten.specs.declared.plan.PartPlan.{PartPlan}
 use Rattle.hdl_flatten.specs.declared.flat.Growing.{Growing}
 use Rattle.hdl_flatten.specs.declared.flat.Unfinished.{Unfinished}
 use Rattle.hdl_flatten.specs.Inner.Plans.{places}
+use Rattle.hdl_flatten.specs.Inner.Fed.{nodes_in}
 use Rattle.hdl_flatten.specs.Inner.Putting.{IsPut, IsGoing, IsEndFed, end_puts, end_blocks}
 
 -- a chip that is to be put, by the place of its plan
@@ -27,15 +28,15 @@ pub record IsUnfinished (chips : Chips) (plans : List Plan) (flat : Growing) (ch
   pub old : Growing
   pub there : slice_get plans place ≡ Some plan
   pub none : plan.end ≡ None
-  pub long : length chip.inputs.items ≡ length plan.inputs.items
+  pub long : length (nodes_in chip.inputs) ≡ length plan.inputs.items
   pub room : length old.nodes.items + plan.size.nodes ≤ 16777216
   pub base_is : chip.base ≡ length old.nodes.items
-  pub going : IsGoing chips plans place plan chip.inputs.items old flat chip.rest.now
+  pub going : IsGoing chips plans place plan (nodes_in chip.inputs) old flat chip.rest.now
 
 -- from the top on: once the chip is put, the next goes on
 abbrev pub IsPending : Chips → List Plan → Task → List Unfinished → Growing → Type 0
 IsPending chips plans task [] flat = IsDone chips plans task flat
-IsPending chips plans task (u ∷ us) flat = (o : IsUnfinished chips plans flat u) × ((new : Growing) → IsPut chips o.plan u.inputs.items o.old new → IsPending chips plans task us new)
+IsPending chips plans task (u ∷ us) flat = (o : IsUnfinished chips plans flat u) × ((new : Growing) → IsPut chips o.plan (nodes_in u.inputs) o.old new → IsPending chips plans task us new)
 
 -- the stack, as the code holds it
 pub record ArePending (chips : Chips) (plans : List Plan) (task : Task) (items : List Unfinished) (flat : Growing) : Type 0 where
@@ -60,7 +61,7 @@ pub record EndStands (e : End) (inputs : List ℕ) (old new : Growing) : Type 0 
 pub record IsOnStack (plan : Plan) (inputs : List ℕ) (old : Growing) (before after : List Unfinished) : Type 0 where
   pub chip : Unfinished
   pub base_is : chip.base ≡ length old.nodes.items
-  pub inputs_are : chip.inputs.items ≡ inputs
+  pub inputs_are : nodes_in chip.inputs ≡ inputs
   pub rest_is : chip.rest.now ≡ plan.parts.items
   pub longer : after ≡ before ++ chip ∷ []
 

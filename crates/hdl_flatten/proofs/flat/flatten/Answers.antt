@@ -1,4 +1,4 @@
-use Rattle.std.proofs.Common.{◌≡◌, ℕ, ◌+◌, ◌++◌, ◌≤◌, List, length, map, Some, ap, sym, subst, ◌∙◌, arith}
+use Rattle.std.proofs.Common.{◌≡◌, ℕ, ◌+◌, ◌++◌, ◌≤◌, List, length, Some, ap, sym, subst, ◌∙◌, arith}
 use Rattle.std.specs.Prelude.{slice_get}
 use Rattle.hdl_tree.specs.Chips.{Chips}
 use Rattle.hdl_check.specs.Inner.Progress.{chips_of}
@@ -8,9 +8,8 @@ use Rattle.hdl_flatten.specs.declared.plan.Plan.{Plan}
 use Rattle.hdl_flatten.specs.declared.flat.Flat.{Flat}
 use Rattle.hdl_flatten.specs.declared.flat.Growing.{Growing}
 use Rattle.hdl_flatten.specs.Ends.{EndsHavePins}
-use Rattle.hdl_flatten.specs.Flat.{pin_at}
 use Rattle.hdl_flatten.specs.Inner.Plans.{ArePlans}
-use Rattle.hdl_flatten.specs.Inner.Putting.{AreWithin, MayPut, IsPut, own_nodes, constants, from_two, pins}
+use Rattle.hdl_flatten.specs.Inner.Putting.{AreWithin, MayPut, IsPut, constants, from_two, pins}
 use Rattle.hdl_flatten.specs.Inner.Wired.{wires_of}
 use Rattle.hdl_flatten.proofs.Flattened.{Top, top_place, top_in, top_fits, top_may, flat_is, flat_in, long_two, all_within}
 use Rattle.hdl_flatten.proofs.flat.flatten.Goals as goal
@@ -110,7 +109,7 @@ directory-requires-clause-within c =
     let count : c.len.result ≡ length plan.inputs.items = c.len.ensures ∙ plan.inputs.ok.0 in
     let fed : c.in_ok-inputs.inputs.items ≡ from_two (length plan.inputs.items) = c.in_ok-inputs.ensures ∙ ap from_two count in
     let long : length c.in_ok-inputs.inputs.items ≡ length plan.inputs.items = ap length fed ∙ long_two (length plan.inputs.items) in
-    subst (λ (n : ℕ). AreWithin n 16777216 (wires_of plan.wires)) (sym (ap length c.deref-4.ensures.value ∙ long)) (all_within seen c.args.top.now plans nest.top plan t)
+    subst (λ (n : ℕ). AreWithin n 16777216 (wires_of plan.wires)) (sym long) (all_within seen c.args.top.now plans nest.top plan t)
 
 pub returns : goal.returns
 returns c = λ chip found.
@@ -131,8 +130,5 @@ returns c = λ chip found.
     let flat : Flat = c.with_pins.result in
     let put : (x : Plan) → slice_get plans nest.top ≡ Some x → IsPut seen x inputs old new = subst (λ (is : List ℕ). (x : Plan) → slice_get plans nest.top ≡ Some x → IsPut seen x is old new) c.deref-3.ensures.value
     (subst (λ (ps : List Plan). (x : Plan) → slice_get ps nest.top ≡ Some x → IsPut seen x c.deref-3.result.now old new) c.deref-2.ensures.value c.in_ok-put.ensures) in
-    let own = λ (is : List ℕ). pin_at (own_nodes (wires_of plan.wires) c.len-base.result is) in
-    let all : c.in_ok-pins.pins.items ≡ map (own inputs) plan.entry.now.chip.inputs ++ map (own inputs) plan.entry.now.chip.outputs =
-    subst (λ (is : List ℕ). c.in_ok-pins.pins.items ≡ map (own is) plan.entry.now.chip.inputs ++ map (own is) plan.entry.now.chip.outputs) c.deref-4.ensures.value c.in_ok-pins.ensures in
     flat_in seen chips c.args.top.now plans nest.top plan flat same t
-    (flat_is seen c.args.top.now plans nest.top plan t inputs old new fed begun c.in_ok-flat.ensures.blocks c.in_ok-flat.ensures.parts put c.len-base.result base flat c.with_pins.ensures.nodes c.with_pins.ensures.blocks c.with_pins.ensures.parts (c.with_pins.ensures.pins ∙ all)) chip found
+    (flat_is seen c.args.top.now plans nest.top plan t inputs old new fed begun c.in_ok-flat.ensures.blocks c.in_ok-flat.ensures.parts put c.len-base.result base flat c.with_pins.ensures.nodes c.with_pins.ensures.blocks c.with_pins.ensures.parts (c.with_pins.ensures.pins ∙ c.in_ok-pins.ensures)) chip found

@@ -1,8 +1,6 @@
-use Rattle.std.proofs.Common.{◌≡◌, ℕ, [], ◌∷◌, ◌++◌, List, length, length-append, Some, refl, sym, ap, subst, ◌∙◌, arith}
-use Rattle.std.specs.Prelude.{slice_get}
+use Rattle.std.proofs.Common.{◌≡◌, ℕ, [], ◌∷◌, ◌++◌, List, length, length-append, Some, sym, ap, subst, ◌∙◌, arith}
 use Rattle.hdl_check.specs.Inner.Progress.{chips_of}
 use Rattle.hdl_flatten.specs.declared.plan.Plan.{Plan}
-use Rattle.hdl_flatten.specs.declared.flat.Growing.{Growing}
 use Rattle.hdl_flatten.specs.declared.flat.Unfinished.{Unfinished}
 use Rattle.hdl_flatten.specs.Inner.Putting.{MayPut, IsPut}
 use Rattle.hdl_flatten.specs.Inner.Unfinished.{Task, ArePending, all_steps}
@@ -17,8 +15,8 @@ enter-requires c =
     let old = c.args.flat.now in
     let task : Task = record { place = c.args.place; inputs = c.args.inputs.now; old = old } in
     let plan = c.index-plans-place.result in
-    let inputs = c.in_ok-inputs.inputs.items in
-    let may = subst (λ (is : List ℕ). MayPut plans c.args.place is old) (sym c.in_ok-inputs.ensures.items) c.requires.put in
+    let inputs = c.in_ok-nodes.nodes.items in
+    let may = subst (λ (is : List ℕ). MayPut plans c.args.place is old) (sym c.in_ok-nodes.ensures.items) c.requires.put in
     may_begin chips plans c.args.place plan inputs old c.requires.plans c.requires.ends may c.index-plans-place.is
 
 pub chips-init : goal.chips-init
@@ -28,14 +26,14 @@ chips-init c =
     let old = c.args.flat.now in
     let task : Task = record { place = c.args.place; inputs = c.args.inputs.now; old = old } in
     let plan = c.index-plans-place.result in
-    let inputs = c.in_ok-inputs.inputs.items in
-    let may = subst (λ (is : List ℕ). MayPut plans c.args.place is old) (sym c.in_ok-inputs.ensures.items) c.requires.put in
+    let inputs = c.in_ok-nodes.nodes.items in
+    let may = subst (λ (is : List ℕ). MayPut plans c.args.place is old) (sym c.in_ok-nodes.ensures.items) c.requires.put in
     let there = (plan_there plans c.args.place may.plan plan may.there c.index-plans-place.is).0 in
     entered_next chips plans c.requires.plans c.requires.ends task c.args.place plan inputs old c.enter.new.flat [] c.new-stack.result.items c.enter.new.stack.items may c.index-plans-place.is c.new-stack.ensures.items
     (λ x put p at.
     let both : Some plan ≡ Some p = sym there ∙ at in
     let same : plan ≡ p = cc in
-    subst (λ (is : List ℕ). IsPut chips p is old x) c.in_ok-inputs.ensures.items (subst (λ (z : Plan). IsPut chips z inputs old x) same put)) c.in_ok-enter.ensures
+    subst (λ (is : List ℕ). IsPut chips p is old x) c.in_ok-nodes.ensures.items (subst (λ (z : Plan). IsPut chips z inputs old x) same put)) c.in_ok-enter.ensures
 
 pub step-requires-clause-pending : goal.step-requires-clause-pending
 step-requires-clause-pending c =

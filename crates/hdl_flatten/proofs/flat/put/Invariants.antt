@@ -1,5 +1,5 @@
 use Rattle.hdl_check.specs.Inner.Progress.{chips_of}
-use Rattle.hdl_flatten.specs.Inner.Unfinished.{Task, ArePending, all_steps}
+use Rattle.hdl_flatten.specs.Inner.Unfinished.{ArePending, all_steps}
 use Rattle.hdl_flatten.proofs.flat.put.Given as goal
 
 abbrev pub invariant-chips : goal.invariant-chips

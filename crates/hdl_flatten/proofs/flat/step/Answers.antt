@@ -1,13 +1,14 @@
-use Rattle.std.proofs.Common.{◌≡◌, ℕ, ◌<◌, ◌≤◌, ◌++◌, ◌∷◌, [], List, length, map, refl, sym, ap, subst, ◌∙◌, arith}
-use Rattle.std.specs.List.{All}
+use Rattle.std.proofs.Common.{◌≡◌, ℕ, ◌++◌, ◌∷◌, [], List, length, map, refl, sym, ap, subst, ◌∙◌, arith}
 use Rattle.hdl_check.specs.Inner.Progress.{chips_of}
-use Rattle.hdl_flatten.specs.declared.wires.Origin.{Origin}
+use Rattle.hdl_flatten.specs.declared.wires.Bit.{Bit}
 use Rattle.hdl_flatten.specs.declared.flat.Growing.{Growing}
 use Rattle.hdl_flatten.specs.declared.flat.Unfinished.{Unfinished}
 use Rattle.hdl_flatten.specs.Flat.{block_at}
 use Rattle.hdl_flatten.specs.Inner.Puts.{node_of}
-use Rattle.hdl_flatten.specs.Inner.Putting.{IsWithin}
-use Rattle.hdl_flatten.specs.Inner.Unfinished.{IsBegun, all_steps}
+use Rattle.hdl_flatten.specs.Inner.Wired.{bit_of}
+use Rattle.hdl_flatten.specs.Inner.Feeds.{feed_origins}
+use Rattle.hdl_flatten.specs.Inner.Fed.{nodes_in, MayFeed}
+use Rattle.hdl_flatten.specs.Inner.Unfinished.{IsBegun}
 use Rattle.hdl_flatten.proofs.Putting.{rest_is_none, on_both, head_base, head_fed, head_place, head_long, head_few, head_number, head_entry, head_outs, head_may}
 use Rattle.hdl_flatten.proofs.Pending.{on_top, head, head_there, may_begin, nodes_are, entered_next, carried, finished, one_less, step_less}
 use Rattle.hdl_flatten.proofs.flat.step.Goals as goal
@@ -40,7 +41,7 @@ offset_bounds-plans-part c =
     let t = on_top chips plans task items u now c.requires.pending.1 in
     let o = t.pending.0 in
     let h = head chips plans c.requires.plans c.requires.ends task now u o q qs c.in-Some.ensures.cases.0 in
-    let lt = head_place chips plans o.place o.plan u.inputs.items o.old now q qs h in
+    let lt = head_place chips plans o.place o.plan (nodes_in u.inputs) o.old now q qs h in
     let few = c.well_formed.1.1.0.1 in
     omega (arith, lt, few)
 
@@ -57,10 +58,10 @@ bounds-plans-part c =
     let t = on_top chips plans task items u now c.requires.pending.1 in
     let o = t.pending.0 in
     let h = head chips plans c.requires.plans c.requires.ends task now u o q qs c.in-Some.ensures.cases.0 in
-    head_place chips plans o.place o.plan u.inputs.items o.old now q qs h
+    head_place chips plans o.place o.plan (nodes_in u.inputs) o.old now q qs h
 
-pub nodes_of-requires-clause-base : goal.nodes_of-requires-clause-base
-nodes_of-requires-clause-base c =
+pub nodes-requires-clause-base : goal.nodes-requires-clause-base
+nodes-requires-clause-base c =
     let chips = chips_of c.args.catalog.now in
     let plans = c.args.plans.now in
     let now = c.args.flat.now in
@@ -72,12 +73,12 @@ nodes_of-requires-clause-base c =
     let t = on_top chips plans task items u now c.requires.pending.1 in
     let o = t.pending.0 in
     let h = head chips plans c.requires.plans c.requires.ends task now u o q qs c.in-Some.ensures.cases.0 in
-    let small = head_base chips plans o.place o.plan u.inputs.items o.old now q qs h in
+    let small = head_base chips plans o.place o.plan (nodes_in u.inputs) o.old now q qs h in
     let base = o.base_is in
     omega (arith, small, base)
 
-pub nodes_of-requires-clause-within : goal.nodes_of-requires-clause-within
-nodes_of-requires-clause-within c =
+pub nodes-requires-clause-may : goal.nodes-requires-clause-may
+nodes-requires-clause-may c =
     let chips = chips_of c.args.catalog.now in
     let plans = c.args.plans.now in
     let now = c.args.flat.now in
@@ -89,8 +90,8 @@ nodes_of-requires-clause-within c =
     let t = on_top chips plans task items u now c.requires.pending.1 in
     let o = t.pending.0 in
     let h = head chips plans c.requires.plans c.requires.ends task now u o q qs c.in-Some.ensures.cases.0 in
-    subst (λ (os : List Origin). All (IsWithin (length c.deref-2.result.now) 16777216) os) (sym c.deref.ensures.value)
-    (subst (λ (is : List ℕ). All (IsWithin (length is) 16777216) q.origins.items) (sym c.deref-2.ensures.value) (head_fed chips plans o.place o.plan u.inputs.items o.old now q qs h))
+    let y = c.index-plans-part.result in
+    subst (λ (bs : List Bit). MayFeed (length (nodes_in u.inputs)) q.feeds (map bit_of bs)) (sym c.deref.ensures.value) (head_fed chips plans o.place o.plan (nodes_in u.inputs) o.old now q qs h y c.index-plans-part.is)
 
 pub part_at-requires-clause-there : goal.part_at-requires-clause-there
 part_at-requires-clause-there c =
@@ -106,7 +107,7 @@ part_at-requires-clause-there c =
     let o = t.pending.0 in
     let h = head chips plans c.requires.plans c.requires.ends task now u o q qs c.in-Some.ensures.cases.0 in
     let y = c.index-plans-part.result in
-    head_number chips plans o.place o.plan u.inputs.items o.old now q qs h y c.index-plans-part.is
+    head_number chips plans o.place o.plan (nodes_in u.inputs) o.old now q qs h y c.index-plans-part.is
 
 pub part_at-requires-clause-base : goal.part_at-requires-clause-base
 part_at-requires-clause-base c =
@@ -122,7 +123,7 @@ part_at-requires-clause-base c =
     let o = t.pending.0 in
     let h = head chips plans c.requires.plans c.requires.ends task now u o q qs c.in-Some.ensures.cases.0 in
     let long = ap length c.as_slice.ensures.value in
-    let small = head_long chips plans o.place o.plan u.inputs.items o.old now q qs h in
+    let small = head_long chips plans o.place o.plan (nodes_in u.inputs) o.old now q qs h in
     omega (arith, long, small)
 
 pub part_at-requires-clause-within : goal.part_at-requires-clause-within
@@ -138,10 +139,10 @@ part_at-requires-clause-within c =
     let t = on_top chips plans task items u now c.requires.pending.1 in
     let o = t.pending.0 in
     let h = head chips plans c.requires.plans c.requires.ends task now u o q qs c.in-Some.ensures.cases.0 in
-    let nodes = c.in_ok-nodes.nodes.items in
-    let fed = nodes_are c.deref.result.now q.origins.items u.base (length o.old.nodes.items) c.deref-2.result.now u.inputs.items nodes c.in_ok-nodes.ensures c.deref.ensures.value o.base_is c.deref-2.ensures.value in
+    let nodes = nodes_in c.in_ok-nodes.nodes in
+    let fed = nodes_are (feed_origins q.feeds) u.base (length o.old.nodes.items) (nodes_in u.inputs) nodes c.in_ok-nodes.ensures o.base_is in
     let y = c.index-plans-part.result in
-    head_outs chips plans o.place o.plan u.inputs.items o.old now q qs h y c.index-plans-part.is c.deref-3.result.now (c.deref-3.ensures.value ∙ fed)
+    head_outs chips plans o.place o.plan (nodes_in u.inputs) o.old now q qs h y c.index-plans-part.is nodes fed
 
 pub part_at-requires-clause-number : goal.part_at-requires-clause-number
 part_at-requires-clause-number c =
@@ -157,7 +158,7 @@ part_at-requires-clause-number c =
     let o = t.pending.0 in
     let h = head chips plans c.requires.plans c.requires.ends task now u o q qs c.in-Some.ensures.cases.0 in
     let long = ap length c.as_slice-2.ensures.value in
-    let small = head_few chips plans o.place o.plan u.inputs.items o.old now q qs h in
+    let small = head_few chips plans o.place o.plan (nodes_in u.inputs) o.old now q qs h in
     omega (arith, long, small)
 
 pub enter-requires : goal.enter-requires
@@ -173,10 +174,10 @@ enter-requires c =
     let t = on_top chips plans task items u now c.requires.pending.1 in
     let o = t.pending.0 in
     let h = head chips plans c.requires.plans c.requires.ends task now u o q qs c.in-Some.ensures.cases.0 in
-    let nodes = c.in_ok-nodes.nodes.items in
-    let fed = nodes_are c.deref.result.now q.origins.items u.base (length o.old.nodes.items) c.deref-2.result.now u.inputs.items nodes c.in_ok-nodes.ensures c.deref.ensures.value o.base_is c.deref-2.ensures.value in
+    let nodes = nodes_in c.in_ok-nodes.nodes in
+    let fed = nodes_are (feed_origins q.feeds) u.base (length o.old.nodes.items) (nodes_in u.inputs) nodes c.in_ok-nodes.ensures o.base_is in
     let y = c.index-plans-part.result in
-    may_begin chips plans q.place y nodes _ c.requires.plans c.requires.ends (head_may chips plans o.place o.plan u.inputs.items o.old now q qs h nodes _ fed refl refl) c.index-plans-part.is
+    may_begin chips plans q.place y nodes _ c.requires.plans c.requires.ends (head_may chips plans o.place o.plan (nodes_in u.inputs) o.old now q qs h nodes _ fed refl refl) c.index-plans-part.is
 
 pub returns-clause-pending : goal.returns-clause-pending
 returns-clause-pending c =
@@ -185,7 +186,7 @@ returns-clause-pending c =
     let now = c.args.flat.now in
     let u = c.args.chip in
     let items = c.args.stack.now.items in
-    let nodes = c.in_ok-nodes.nodes.items in
+    let nodes = nodes_in c.in_ok-nodes.nodes in
     let y = c.index-plans-part.result in
     let q = c.in-Some.part.now in
     let qs = c.in-Some.others.now in
@@ -196,12 +197,12 @@ returns-clause-pending c =
     let t = on_top chips plans task items u now a in
     let o = t.pending.0 in
     let h = head chips plans c.requires.plans c.requires.ends task now u o q qs c.in-Some.ensures.cases.0 in
-    let fed = nodes_are c.deref.result.now q.origins.items u.base (length o.old.nodes.items) c.deref-2.result.now u.inputs.items nodes c.in_ok-nodes.ensures c.deref.ensures.value o.base_is c.deref-2.ensures.value in
+    let fed = nodes_are (feed_origins q.feeds) u.base (length o.old.nodes.items) (nodes_in u.inputs) nodes c.in_ok-nodes.ensures o.base_is in
     let outs : listed.outs ≡ map (node_of (length now.nodes.items) nodes) y.outs.items =
-    c.in_ok-listed.ensures.outs ∙ ap (λ (n : ℕ). map (node_of n c.deref-3.result.now) y.outs.items) (ap length c.as_slice.ensures.value) ∙ ap (λ (is : List ℕ). map (node_of (length now.nodes.items) is) y.outs.items) c.deref-3.ensures.value in
+    c.in_ok-listed.ensures.outs ∙ ap (λ (n : ℕ). map (node_of n nodes) y.outs.items) (ap length c.as_slice.ensures.value) in
     let block : listed.block ≡ block_at y.end (length now.blocks.items) = c.in_ok-listed.ensures.block ∙ ap (block_at y.end) (ap length c.as_slice-2.ensures.value) in
-    let name : listed.chip ≡ y.entry.now.name = c.in_ok-listed.ensures.chip y.entry.now (head_entry chips plans o.place o.plan u.inputs.items o.old now q qs h y c.index-plans-part.is) in
-    entered_next chips plans c.requires.plans c.requires.ends task q.place y nodes mid c.enter.new.flat (v ∷ t.below) c.push-2.new.stack.items c.enter.new.stack.items (head_may chips plans o.place o.plan u.inputs.items o.old now q qs h nodes mid fed refl refl) c.index-plans-part.is (c.in_ok-push-2.ensures ∙ ap (λ (us : List Unfinished). us ++ v ∷ []) t.items_are)
+    let name : listed.chip ≡ y.entry.now.name = c.in_ok-listed.ensures.chip y.entry.now (head_entry chips plans o.place o.plan (nodes_in u.inputs) o.old now q qs h y c.index-plans-part.is) in
+    entered_next chips plans c.requires.plans c.requires.ends task q.place y nodes mid c.enter.new.flat (v ∷ t.below) c.push-2.new.stack.items c.enter.new.stack.items (head_may chips plans o.place o.plan (nodes_in u.inputs) o.old now q qs h nodes mid fed refl refl) c.index-plans-part.is (c.in_ok-push-2.ensures ∙ ap (λ (us : List Unfinished). us ++ v ∷ []) t.items_are)
     (λ x put. carried chips plans c.requires.plans c.requires.ends task now mid x u v t.below o q qs h y c.index-plans-part.is nodes listed refl refl refl fed refl refl c.in_ok-push.ensures name outs block t.pending.1 put) b)
 
 pub returns-clause-less : goal.returns-clause-less
@@ -220,6 +221,6 @@ returns-clause-less c =
     let y = c.index-plans-part.result in
     let v : Unfinished = record { base = u.base; inputs = u.inputs; rest = c.in-Some.others } in
     let mid : Growing = record { nodes = now.nodes; blocks = now.blocks; parts = c.push.new.self } in
-    let there = head_there chips plans o.place o.plan u.inputs.items o.old now q qs h y c.index-plans-part.is in
+    let there = head_there chips plans o.place o.plan (nodes_in u.inputs) o.old now q qs h y c.index-plans-part.is in
     on_both c.enter.result c.enter.ensures c.enter.ensures (λ b _.
-    step_less chips plans c.requires.plans items c.enter.new.stack.items u v q qs y c.in_ok-nodes.nodes.items mid c.enter.new.flat there c.in-Some.ensures.cases.0 refl (subst (λ (us : List Unfinished). IsBegun y c.in_ok-nodes.nodes.items mid c.enter.new.flat us c.enter.new.stack.items) c.in_ok-push-2.ensures b))
+    step_less chips plans c.requires.plans items c.enter.new.stack.items u v q qs y (nodes_in c.in_ok-nodes.nodes) mid c.enter.new.flat there c.in-Some.ensures.cases.0 refl (subst (λ (us : List Unfinished). IsBegun y (nodes_in c.in_ok-nodes.nodes) mid c.enter.new.flat us c.enter.new.stack.items) c.in_ok-push-2.ensures b))

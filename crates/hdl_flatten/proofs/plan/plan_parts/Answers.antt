@@ -26,7 +26,7 @@ loop-part-preserved c =
     let lt : place < length plans = head_below (length plans) place after c.loop-part.behind.now behind c.loop-part.invariant.within in
     let here : slice_get plans place ≡ Some x = slice_get_read plans (length plans) place x refl lt c.index-plans-place.is in
     let next : c.join-size.result ≡ joined_size size x.size = c.join-size.ensures in
-    let one : IsPartPlan wires size part x q = record { offset = c.in_ok-plan_part.ensures.offset; origins = c.in_ok-plan_part.ensures.origins } in
+    let one : IsPartPlan wires size part x q = record { offset = c.in_ok-plan_part.ensures.offset; origins = c.in_ok-plan_part.ensures.origins; few = c.in_ok-plan_part.ensures.few } in
     let long_rest = ap length rest in
     let long_behind = ap length behind in
     let long = c.loop-part.invariant.long in

@@ -1,6 +1,6 @@
 use Rattle.std.proofs.Common.{arith}
 use Rattle.std.proofs.lemmas.Grind.{common_steps}
-use Rattle.hdl_flatten.proofs.flat.nodes_of.Goals as goal
+use Rattle.hdl_flatten.proofs.feeds.nodes_of.Goals as goal
 
 pub loop-origin-preserved : goal.loop-origin-preserved
 loop-origin-preserved c = grind (arith, common_steps)
