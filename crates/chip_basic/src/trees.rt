@@ -232,7 +232,6 @@ pub fn dmux_tree(alloc: Global) -> Result<Chip, AllocError>
     )
 }
 
-#[tactic(auto, using(crate::proofs::Rows::one_more))]
 fn not_bits(alloc: Global) -> Result<List<Part>, AllocError>
     ensures { IfOk result (λ parts. parts ≡ each 16 not_bit) }
 {
@@ -263,7 +262,6 @@ pub fn not16_tree(alloc: Global) -> Result<Chip, AllocError>
     )
 }
 
-#[tactic(auto, using(crate::proofs::Rows::one_more))]
 fn and_bits(alloc: Global) -> Result<List<Part>, AllocError>
     ensures { IfOk result (λ parts. parts ≡ each 16 and_bit) }
 {
@@ -298,7 +296,6 @@ pub fn and16_tree(alloc: Global) -> Result<Chip, AllocError>
     )
 }
 
-#[tactic(auto, using(crate::proofs::Rows::one_more))]
 fn or_bits(alloc: Global) -> Result<List<Part>, AllocError>
     ensures { IfOk result (λ parts. parts ≡ each 16 or_bit) }
 {
@@ -333,7 +330,6 @@ pub fn or16_tree(alloc: Global) -> Result<Chip, AllocError>
     )
 }
 
-#[tactic(auto, using(crate::proofs::Rows::one_more))]
 fn mux_bits(alloc: Global) -> Result<List<Part>, AllocError>
     ensures { IfOk result (λ parts. parts ≡ each 16 mux_bit) }
 {

@@ -11,7 +11,7 @@ use source_files::{Language, TextError};
 use std::alloc::Global;
 
 /// The form of the text of a program of the instruction machine.
-#[derive(Clone, Copy, Debug, PartialEq, Eq)]
+#[derive(Clone, Copy)]
 pub enum Form {
     /// Assembly.
     Assembly,

@@ -5,7 +5,7 @@ ghost use Rattle.scan_text.specs.Text.{first, is_digit};
 ghost use Rattle.scan_text.specs.View.{left_bytes};
 ghost use Rattle.grammar.specs.Cutting.{NextBy};
 ghost use Rattle.grammar.specs.Reading.{Gives};
-ghost use Rattle.hack_asm.specs.Roles.{role_of};
+ghost use Rattle.hack_asm.specs.Roles.{role_among, role_of};
 ghost use Rattle.hack_asm.specs.Tokens.{view, tokens_of, finish, is_letter, is_symbol_byte, is_sign, begins_left_shift, begins_right_shift, shift_piece, word_of, number_piece, symbol_piece};
 
 use crate::token::{Kind, Letter, Operator, Role, Token};
@@ -13,42 +13,56 @@ use grammar::{Fault, LineCutter, LineToken, ReadError, comment, cut_lines, line_
 use scan_text::{Place, Scan};
 use std::alloc::Global;
 
+// The texts that mean something in an instruction.
+const ROLES: &[(&'static [u8], Role)] = &[
+    (b"0", Role::Letter(Letter::Zero)),
+    (b"1", Role::Letter(Letter::One)),
+    (b"A", Role::Letter(Letter::A)),
+    (b"D", Role::Letter(Letter::D)),
+    (b"M", Role::Letter(Letter::M)),
+    (b"+", Role::Operator(Operator::Plus)),
+    (b"-", Role::Operator(Operator::Minus)),
+    (b"&", Role::Operator(Operator::And)),
+    (b"|", Role::Operator(Operator::Or)),
+    (b"AD", Role::Several(0b110)),
+    (b"DA", Role::Several(0b110)),
+    (b"AM", Role::Several(0b101)),
+    (b"MA", Role::Several(0b101)),
+    (b"DM", Role::Several(0b011)),
+    (b"MD", Role::Several(0b011)),
+    (b"ADM", Role::Several(0b111)),
+    (b"AMD", Role::Several(0b111)),
+    (b"DAM", Role::Several(0b111)),
+    (b"DMA", Role::Several(0b111)),
+    (b"MAD", Role::Several(0b111)),
+    (b"MDA", Role::Several(0b111)),
+    (b"JGT", Role::Jump(0b001)),
+    (b"JEQ", Role::Jump(0b010)),
+    (b"JGE", Role::Jump(0b011)),
+    (b"JLT", Role::Jump(0b100)),
+    (b"JNE", Role::Jump(0b101)),
+    (b"JLE", Role::Jump(0b110)),
+    (b"JMP", Role::Jump(0b111)),
+    (b"<<", Role::Shift(true)),
+    (b">>", Role::Shift(false)),
+];
+
+// What the first row of this text has.
+fn role_among(rows: &[(&[u8], Role)], text: &[u8]) -> Role
+    ensures { result ≡ role_among (map (λ r. (r.0.now, r.1)) rows.now) text.now }
+{
+    for row in rows {
+        if row.0 == text {
+            return row.1;
+        }
+    }
+    Role::Plain
+}
+
 fn role_of(text: &[u8]) -> Role
     ensures { result ≡ role_of text.now }
 {
-    match text {
-        b"0" => Role::Letter(Letter::Zero),
-        b"1" => Role::Letter(Letter::One),
-        b"A" => Role::Letter(Letter::A),
-        b"D" => Role::Letter(Letter::D),
-        b"M" => Role::Letter(Letter::M),
-        b"+" => Role::Operator(Operator::Plus),
-        b"-" => Role::Operator(Operator::Minus),
-        b"&" => Role::Operator(Operator::And),
-        b"|" => Role::Operator(Operator::Or),
-        b"AD" => Role::Several(0b110),
-        b"DA" => Role::Several(0b110),
-        b"AM" => Role::Several(0b101),
-        b"MA" => Role::Several(0b101),
-        b"DM" => Role::Several(0b011),
-        b"MD" => Role::Several(0b011),
-        b"ADM" => Role::Several(0b111),
-        b"AMD" => Role::Several(0b111),
-        b"DAM" => Role::Several(0b111),
-        b"DMA" => Role::Several(0b111),
-        b"MAD" => Role::Several(0b111),
-        b"MDA" => Role::Several(0b111),
-        b"JGT" => Role::Jump(0b001),
-        b"JEQ" => Role::Jump(0b010),
-        b"JGE" => Role::Jump(0b011),
-        b"JLT" => Role::Jump(0b100),
-        b"JNE" => Role::Jump(0b101),
-        b"JLE" => Role::Jump(0b110),
-        b"JMP" => Role::Jump(0b111),
-        b"<<" => Role::Shift(true),
-        b">>" => Role::Shift(false),
-        _ => Role::Plain,
-    }
+    role_among(ROLES, text)
 }
 
 fn is_letter(b: u8) -> bool

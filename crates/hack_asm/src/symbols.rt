@@ -1,48 +1,68 @@
 //! The addresses of symbols.
 
-ghost use Rattle.std.specs.Prelude.{◌≡◌, ◌++◌, ◌∷◌, [], None, OnOk, length};
-ghost use Rattle.hack_asm.specs.Program.{predefined_value, entry_of, with_entry, address_in};
-ghost use Rattle.hack_asm.specs.Entered.{table_of};
+ghost use Rattle.std.specs.Prelude.{◌≡◌, ◌++◌, ◌∷◌, [], None, OnOk, length, map};
+ghost use Rattle.hack_asm.specs.Program.{predefined_value, address_among, entry_of, with_entry, address_in};
+ghost use Rattle.hack_asm.specs.Entered.{table_of, seen_entry};
 
 use indexmap::IndexMap;
 use std::alloc::{AllocError, Global};
 use word16::{KEYBOARD, SCREEN};
 
+// The symbols that each program has.
+const PREDEFINED: &[(&'static [u8], usize)] = &[
+    (b"R0", 0),
+    (b"R1", 1),
+    (b"R2", 2),
+    (b"R3", 3),
+    (b"R4", 4),
+    (b"R5", 5),
+    (b"R6", 6),
+    (b"R7", 7),
+    (b"R8", 8),
+    (b"R9", 9),
+    (b"R10", 10),
+    (b"R11", 11),
+    (b"R12", 12),
+    (b"R13", 13),
+    (b"R14", 14),
+    (b"R15", 15),
+    (b"SP", 0),
+    (b"LCL", 1),
+    (b"ARG", 2),
+    (b"THIS", 3),
+    (b"THAT", 4),
+    (b"SCREEN", SCREEN as usize),
+    (b"KBD", KEYBOARD as usize),
+];
+
+// The address that the first row of this name has.
+fn address_among(rows: &[(&[u8], usize)], name: &[u8]) -> Option<usize>
+    ensures { result ≡ address_among (map seen_entry rows.now) name.now }
+{
+    for row in rows {
+        if row.0 == name {
+            return Some(row.1);
+        }
+    }
+    None
+}
+
 fn predefined(name: &[u8]) -> Option<usize>
     ensures { result ≡ predefined_value name.now }
 {
-    match name {
-        b"R0" => Some(0),
-        b"R1" => Some(1),
-        b"R2" => Some(2),
-        b"R3" => Some(3),
-        b"R4" => Some(4),
-        b"R5" => Some(5),
-        b"R6" => Some(6),
-        b"R7" => Some(7),
-        b"R8" => Some(8),
-        b"R9" => Some(9),
-        b"R10" => Some(10),
-        b"R11" => Some(11),
-        b"R12" => Some(12),
-        b"R13" => Some(13),
-        b"R14" => Some(14),
-        b"R15" => Some(15),
-        b"SP" => Some(0),
-        b"LCL" => Some(1),
-        b"ARG" => Some(2),
-        b"THIS" => Some(3),
-        b"THAT" => Some(4),
-        b"SCREEN" => Some(SCREEN as usize),
-        b"KBD" => Some(KEYBOARD as usize),
-        _ => None,
-    }
+    address_among(PREDEFINED, name)
 }
 
 /// Symbols with their addresses, in the order in which they were entered.
-#[derive(Drop)]
 pub struct Symbols<'a> {
     entries: IndexMap<&'a [u8], usize>,
+}
+
+// By hand, so that whoever drops one calls this.
+impl Drop for Symbols<'_> {
+    fn drop(self) {
+        let Symbols { entries: _ } = self;
+    }
 }
 
 impl<'a> Symbols<'a> {

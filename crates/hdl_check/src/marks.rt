@@ -15,9 +15,15 @@ pub(crate) struct Mark<'a> {
 }
 
 /// Bits that are marked.
-#[derive(Drop)]
 pub(crate) struct Marks<'a> {
     bits: IndexSet<Mark<'a>>,
+}
+
+// By hand, so that whoever drops one calls this.
+impl Drop for Marks<'_> {
+    fn drop(self) {
+        let Marks { bits: _ } = self;
+    }
 }
 
 impl<'a> Marks<'a> {

@@ -29,7 +29,7 @@ pub trait Until<L: Level> {
 }
 
 /// How a drive ends: all moves were made, or the machine gave another answer than `Acted`.
-#[derive(Clone, Copy, PartialEq, Eq, Debug)]
+#[derive(Clone, Copy, PartialEq, Eq)]
 pub enum End {
     Bound,
     Stray(Stray),
@@ -38,7 +38,7 @@ pub enum End {
 }
 
 /// How a drive stops that has a test: the test holds, or the drive ends before.
-#[derive(Clone, Copy, PartialEq, Eq, Debug)]
+#[derive(Clone, Copy, PartialEq, Eq)]
 pub enum Stop {
     Found,
     Ended(End),

@@ -9,7 +9,7 @@ use std::alloc::AllocError;
 
 /// Why a machine can't make its next move. It is a load or store at this address outside the memory, too few
 /// values on the stack, a missing argument or local, or no command to be done.
-#[derive(Clone, Copy, PartialEq, Eq, Debug)]
+#[derive(Clone, Copy, PartialEq, Eq)]
 pub enum Stray {
     Address(u16),
     Values,
@@ -19,7 +19,7 @@ pub enum Stray {
 }
 
 /// What a machine answers to a key. `Full` carries the number of words that the stack would have.
-#[derive(Clone, Copy, PartialEq, Eq, Debug)]
+#[derive(Clone, Copy, PartialEq, Eq)]
 pub enum Moved {
     Acted,
     Stray(Stray),

@@ -16,7 +16,7 @@ use word16::{HEAP, SCREEN};
 
 /// The level at which a program is run: by its meaning, on the stack machine, on the instruction machine, or
 /// on the computer built of gates.
-#[derive(Clone, Copy, PartialEq, Eq, Debug)]
+#[derive(Clone, Copy)]
 pub enum LevelName {
     Jack,
     Vm,
@@ -25,7 +25,7 @@ pub enum LevelName {
 }
 
 /// What of the words is shown after a report: nothing, the words of the heap that aren't 0, or the screen.
-#[derive(Clone, Copy, PartialEq, Eq, Debug)]
+#[derive(Clone, Copy, PartialEq, Eq)]
 pub enum Show {
     Nothing,
     Heap,

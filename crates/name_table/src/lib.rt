@@ -9,9 +9,15 @@ use indexmap::IndexMap;
 use std::alloc::{AllocError, Global};
 
 /// What names stand for: what was entered first for a name is found.
-#[derive(Drop)]
 pub struct Table<'a, V> {
     entries: IndexMap<&'a [u8], V>,
+}
+
+// By hand, so that whoever drops one calls this.
+impl<V: Drop> Drop for Table<'_, V> {
+    fn drop(self) {
+        let Table { entries: _ } = self;
+    }
 }
 
 impl<'a, V: Copy + Drop> Table<'a, V> {

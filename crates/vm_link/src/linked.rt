@@ -3,7 +3,7 @@ use outer_world::{List, Name};
 use vm_tree::{Operation, Segment};
 
 /// A command of linked code. A static has its number among the static words of all files.
-#[derive(Clone, Copy, Debug, PartialEq, Eq)]
+#[derive(Clone, Copy, PartialEq, Eq)]
 pub enum Step {
     Operate(Operation),
     Push(Segment, u16),
@@ -19,7 +19,7 @@ pub enum Step {
 }
 
 /// A step with the number of its statement, and whether it is a commit.
-#[derive(Clone, Copy, Debug, PartialEq, Eq)]
+#[derive(Clone, Copy)]
 pub struct Code {
     pub step: Step,
     pub statement: u32,
