@@ -29,16 +29,16 @@ err_of outside = sink_state outside.err outside.err_faults
 
 -- ---- words that are no line
 
-no_line_answers : (words : List (List ℕ)) (before after : Outside) (error : LineError) (s : Status) → (error ≡ no_line.Usage → IsNoLine words) → after.out ≡ before.out → after.out_faults ≡ before.out_faults
+no_line_answers : (words : List (List ℕ)) (before after : Outside) (error : LineError) (s : Status) → (error ≡ no_line.Usage → IsNoLine words) → after.out ≡ before.out → after.out_faults ≡ before.out_faults → after.shelf_faults ≡ before.shelf_faults
     → TellsNoLine error (err_of before) (err_of after) s → Answers words before after s
-no_line_answers words before after no_line.Usage s none out quiet (put.Done, said, e) =
+no_line_answers words before after no_line.Usage s none out quiet shelf (put.Done, said, e) =
     rw e ([], usage_line, inl (none refl, refl, refl), rw out (Got-nothing before.out), said.bytes)
-no_line_answers words before after no_line.Usage s none out quiet (put.Failed, said, e) =
-    rw e (inl (status.Usage, usage_line, (none refl, refl, refl), rw out (Got-nothing before.out), quiet, said.bytes, said.counts.0))
-no_line_answers words before after no_line.Memory s none out quiet (put.Done, said, e) =
+no_line_answers words before after no_line.Usage s none out quiet shelf (put.Failed, said, e) =
+    rw e (inl (status.Usage, usage_line, (none refl, refl, refl), rw out (Got-nothing before.out), quiet, said.bytes, said.counts.0, shelf))
+no_line_answers words before after no_line.Memory s none out quiet shelf (put.Done, said, e) =
     rw e ([], want_of_memory_line, inl (refl, refl), rw out (Got-nothing before.out), said.bytes)
-no_line_answers words before after no_line.Memory s none out quiet (put.Failed, said, e) =
-    rw e (inl (status.NoMemory, want_of_memory_line, (refl, refl), rw out (Got-nothing before.out), quiet, said.bytes, said.counts.0))
+no_line_answers words before after no_line.Memory s none out quiet shelf (put.Failed, said, e) =
+    rw e (inl (status.NoMemory, want_of_memory_line, (refl, refl), rw out (Got-nothing before.out), quiet, said.bytes, said.counts.0, shelf))
 
 no_line_causes : (before after : Outside) (error : LineError) (s : Status) → after.shelf_faults ≡ before.shelf_faults → after.out_faults ≡ before.out_faults
     → TellsNoLine error (err_of before) (err_of after) s → Causes before after s
@@ -47,13 +47,14 @@ no_line_causes before after no_line.Usage s shelf out (put.Failed, said, e) = rw
 no_line_causes before after no_line.Memory s shelf out (put.Done, said, e) = rw e (shelf, out, said.counts)
 no_line_causes before after no_line.Memory s shelf out (put.Failed, said, e) = rw e (inr said.counts.0, inl shelf)
 
-pub not_read : (words : List (List ℕ)) (before after : Outside) (error : LineError) (s : Status) → (error ≡ no_line.Usage → IsNoLine words) → after.files ≡ before.files → after.there ≡ before.there → after.out ≡ before.out
+pub not_read : (words : List (List ℕ)) (before after : Outside) (error : LineError) (s : Status) → (error ≡ no_line.Usage → IsNoLine words) → after.files ≡ before.files → after.there ≡ before.there → (before.unfailing → after.unfailing) → after.out ≡ before.out
     → after.shelf_faults ≡ before.shelf_faults → after.out_faults ≡ before.out_faults → TellsNoLine error (err_of before) (err_of after) s → Promises words before after s
-not_read words before after error s none kept stays out shelf quiet tells = record {
-  answers = no_line_answers words before after error s none out quiet tells;
+not_read words before after error s none kept stays honest out shelf quiet tells = record {
+  answers = no_line_answers words before after error s none out quiet shelf tells;
   causes = no_line_causes before after error s shelf quiet tells;
   kept = kept;
   stays = stays;
+  honest = honest;
 }
 
 -- ---- a line that is not done; the bytes and the count of faults of err are known before its line
@@ -80,6 +81,7 @@ module _ (words : List (List ℕ)) (before after : Outside) (line : Line) (is_li
           b,
           Got-then before.err mid.written after.err e (take said.bytes.0 (line_of r)) there said.bytes.1,
           subst (λ n. Rose n after.err_faults) c said.counts.0,
+          a,
         )),
       ))
   failure_answers (failure.Unloaded errors.Failed) s (o, e, ends, got, there) (a, b, c) (put.Done, said, so) =
@@ -99,6 +101,7 @@ module _ (words : List (List ℕ)) (before after : Outside) (line : Line) (is_li
           b,
           Got-then before.err mid.written after.err e (take said.bytes.0 read_fault_line) there said.bytes.1,
           subst (λ n. Rose n after.err_faults) c said.counts.0,
+          a,
         )),
       ))
   failure_answers (failure.Unloaded errors.Memory) s (o, e, ends, got, there) (a, b, c) (put.Done, said, so) =
@@ -118,6 +121,7 @@ module _ (words : List (List ℕ)) (before after : Outside) (line : Line) (is_li
           b,
           Got-then before.err mid.written after.err e (take said.bytes.0 want_of_memory_line) there said.bytes.1,
           subst (λ n. Rose n after.err_faults) c said.counts.0,
+          a,
         )),
       ))
   failure_answers (failure.Differs d) s (o, e, ends, got, there) (a, b, c) (put.Done, said, so) =
@@ -137,12 +141,13 @@ module _ (words : List (List ℕ)) (before after : Outside) (line : Line) (is_li
           b,
           Got-then before.err mid.written after.err e (take said.bytes.0 (difference_line d)) there said.bytes.1,
           subst (λ n. Rose n after.err_faults) c said.counts.0,
+          a,
         )),
       ))
   failure_answers failure.Out s (o, e, cut, got, there) (a, rose, c) (so, counts, same) =
       rw so (inr (line, is_line, inl (o, e, cut, got, subst (λ w. Got before.err w e) (sym same) there, rose, counts ∙ c)))
   failure_answers failure.Echo s (o, e, cut, got, there) (a, b, rose) (so, counts, same) =
-      rw so (inr (line, is_line, inr (inl (o, e, cut, got, subst (λ w. Got before.err w e) (sym same) there, b, subst (λ n. Rose before.err_faults n) (sym counts) rose))))
+      rw so (inr (line, is_line, inr (inl (o, e, cut, got, subst (λ w. Got before.err w e) (sym same) there, b, subst (λ n. Rose before.err_faults n) (sym counts) rose, a))))
 
   failure_causes : (why : Failure) (s : Status) → Counts before.shelf_faults after.shelf_faults (out_of before) (out_of after) (err_of before) mid (Err why)
       → TellsFailure why mid (err_of after) s → Causes before after s
@@ -157,24 +162,26 @@ module _ (words : List (List ℕ)) (before after : Outside) (line : Line) (is_li
   failure_causes failure.Out s (a, rose, c) (so, counts, same) = rw so (inl rose, a)
   failure_causes failure.Echo s (a, b, rose) (so, counts, same) = rw so (inr (subst (λ n. Rose before.err_faults n) (sym counts) rose), inl a)
 
-  pub failed : (why : Failure) (s : Status) → after.files ≡ before.files → after.there ≡ before.there → Does (shelf_state before.files before.there before.unfailing) line (out_of before) (out_of after) (err_of before) mid (Err why)
+  pub failed : (why : Failure) (s : Status) → after.files ≡ before.files → after.there ≡ before.there → (before.unfailing → after.unfailing) → Does (shelf_state before.files before.there before.unfailing) line (out_of before) (out_of after) (err_of before) mid (Err why)
       → Counts before.shelf_faults after.shelf_faults (out_of before) (out_of after) (err_of before) mid (Err why)
       → TellsFailure why mid (err_of after) s → Promises words before after s
-  failed why s kept stays does counts tells = record {
+  failed why s kept stays honest does counts tells = record {
     answers = failure_answers why s does counts tells;
     causes = failure_causes why s counts tells;
     kept = kept;
     stays = stays;
+    honest = honest;
   }
 
 -- ---- a line that is done
 
-pub done : (words : List (List ℕ)) (before after : Outside) (line : Line) → IsLine words line → after.files ≡ before.files → after.there ≡ before.there
+pub done : (words : List (List ℕ)) (before after : Outside) (line : Line) → IsLine words line → after.files ≡ before.files → after.there ≡ before.there → (before.unfailing → after.unfailing)
     → Does (shelf_state before.files before.there before.unfailing) line (out_of before) (out_of after) (err_of before) (err_of after) (Ok tt)
     → Counts before.shelf_faults after.shelf_faults (out_of before) (out_of after) (err_of before) (err_of after) (Ok tt) → Promises words before after status.Done
-done words before after line is_line kept stays (o, e, prints, out, err) counts = record {
+done words before after line is_line kept stays honest (o, e, prints, out, err) counts = record {
   answers = (o, e, inr (line, is_line, prints), out, err);
   causes = counts;
   kept = kept;
   stays = stays;
+  honest = honest;
 }
