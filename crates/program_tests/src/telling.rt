@@ -36,7 +36,7 @@ const WRONG: &[&str] = &[
     "fails shelf x\nout\n|0000000000000010",
     "fails out 1 3\nout\n|0000000000000010",
     "fails err x\nout\n|0000000000000010",
-    "\nout\n|0000000000000010",
+    "out\n|0000000000000010\n\nout\n|x",
 ];
 
 fn wrong_table() -> &'static [&'static str] {
