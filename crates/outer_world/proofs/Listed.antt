@@ -1,5 +1,5 @@
 -- The entries of a folder: what a name is, how they are read one by one, and the names of files among them.
-use Rattle.std.proofs.Common.{◌==◌, ◌&&◌, Option, Some, None, MatchOption, not, ◌≡◌, ◌<◌, ◌≤◌, ◌≢◌, ◌+◌, ◌++◌, ◌||◌, [], ◌∷◌, ℕ, Bool, true, false, List, length, get_or, drop, refl, sym, ◌∙◌, ap, arith, append_assoc, length-append}
+use Rattle.std.proofs.Common.{◌⊎◌, inl, inr, ◌==◌, ◌&&◌, Option, Some, None, MatchOption, not, ◌≡◌, ◌<◌, ◌≤◌, ◌≢◌, ◌+◌, ◌++◌, ◌||◌, [], ◌∷◌, ℕ, Bool, true, false, List, length, get_or, drop, refl, sym, ◌∙◌, ap, arith, append_assoc, length-append}
 use Rattle.std.specs.List.{filter, list_any}
 use denote.Param.Members.{Mut}
 use Rattle.std.specs.Borrow.{Bor}
@@ -12,7 +12,7 @@ use Rattle.std.proofs.lemmas.Iterator.Splits.{YieldsList-from_slice_split}
 use Rattle.std.specs.Str.{IsUtf8, is_utf8}
 use Rattle.std.proofs.lemmas.Str.{IsUtf8-from_is_utf8, is_utf8-from_IsUtf8}
 use Rattle.std.proofs.lemmas.List.{append-nil, at_drop_more, at_drop_all}
-use Rattle.outer_world.specs.Entries.{AreAnswered, AreKept, AreListed, AreTaken, entries_of, ends_like_a_source, is_dots, is_refused, is_taken, files_among}
+use Rattle.outer_world.specs.Entries.{AreAnswered, AreKept, AreListed, AreTaken, AreUntold, entries_of, ends_like_a_source, is_dots, is_refused, is_taken, files_among}
 
 -- ---- what a name is
 
@@ -178,3 +178,16 @@ listed answer entries texts names taken (answers, all, e) = record {
   answers = answers;
   files = e;
 }
+
+-- What was yielded of a list that is used up, and what is left, are the whole.
+pub all_left : {S A : Type 0} (steps : S → Option A → S → Type 0) (left : S → List A) → ((s : S) (x : A) (t : S) → steps s (Some x) t → left s ≡ x ∷ left t)
+    → (s : S) (xs : List A) (t : S) → Yields steps s xs t → left s ≡ xs ++ left t
+all_left {S} {A} steps left f s [] t y = ap left y
+all_left {S} {A} steps left f s (x ∷ xs) t y = f s x y.0 y.1 ∙ ap (λ (z : List A). x ∷ z) (all_left steps left f y.0 xs t y.2)
+
+-- A fault at the name that is asked for next is why none are told.
+pub blamed : {K : Type 0} (answer : List ℕ → Bool → Type 0) (fails : List ℕ → Type 0) (names before files after : List (List ℕ)) (name : List ℕ)
+    → names ≡ before ++ name ∷ after → AreKept answer before files → K ⊎ fails name → K ⊎ AreUntold answer fails names
+blamed answer fails names before files after name these kept (inl k) = inl k
+blamed answer fails names before files after name these kept (inr f) =
+    inr (record { before = before; name = name; after = after; these = these; answers = kept.0; answered = kept.1; failed = f })

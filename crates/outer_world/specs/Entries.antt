@@ -61,6 +61,11 @@ MeansFile (Err error) (Err fault) = (IsOfNoFile (error_kind error) → ⊥) × (
 abbrev pub TellsFile : (List ℕ → Result Metadata Error → Type 0) → List ℕ → Bool → Type 0
 TellsFile asked path is = (answer : Result Metadata Error) × asked path answer × MeansFile answer (Ok is)
 
+-- Where the system was asked at a path so, its answer there is this fault, and not one of no file.
+abbrev pub TellsFault : (List ℕ → Result Metadata Error → Type 0) → List ℕ → Error → Type 0
+TellsFault asked path fault =
+    (answer : Result Metadata Error) × asked path answer × MeansFile answer (Err fault)
+
 -- The path of each entry begins so. An empty folder is the present one.
 abbrev pub front_of_paths : List ℕ → List ℕ
 front_of_paths [] = codes "./"
@@ -82,6 +87,16 @@ AreAnswered answer (name ∷ names) (is ∷ answers) = answer name is × AreAnsw
 -- The names of files among these: those at which the answer is yes, in their order.
 abbrev pub AreKept : (List ℕ → Bool → Type 0) → List (List ℕ) → List (List ℕ) → Type 0
 AreKept answer names files = (answers : List Bool) × AreAnswered answer names answers × (files ≡ files_among names answers)
+
+-- Why the names of files are not told: at one name the answer is this fault, and each name before it has its answer.
+pub record AreUntold (answer : List ℕ → Bool → Type 0) (fails : List ℕ → Type 0) (names : List (List ℕ)) : Type 0 where
+  pub before : List (List ℕ)
+  pub name : List ℕ
+  pub after : List (List ℕ)
+  pub these : names ≡ before ++ name ∷ after
+  pub answers : List Bool
+  pub answered : AreAnswered answer before answers
+  pub failed : fails name
 
 -- What is listed: the names that stay of some entries, and of these those with some answer of yes. Entries and answers may
 -- be any, since nothing is known of the system. So a name that is listed is a text, neither empty nor dots, and has no
