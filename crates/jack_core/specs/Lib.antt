@@ -1,4 +1,4 @@
 pub mod Heights
 pub mod Reading
 pub mod Texts
-pub mod Inner
+pub mod Kept

@@ -1,8 +1,8 @@
 //! Lists of parts. A single part, as most expressions are, stands in the value itself.
 
-ghost use Rattle.std.specs.Prelude.{◌≡◌, List, IfOk, length, slice_get};
+ghost use Rattle.std.specs.Prelude.{◌≡◌, [], ◌∷◌, List, IfOk, length, slice_get};
 ghost use Rattle.jack_core.specs.declared.tree.Part.{Part};
-ghost use Rattle.jack_core.specs.Inner.Kept.{kept_parts};
+ghost use Rattle.jack_core.specs.Kept.{kept_parts};
 
 use crate::tree::Part;
 use std::alloc::{AllocError, Global};
@@ -15,7 +15,7 @@ enum Kept {
     Many(Box<Vec<Part>>),
 }
 
-/// Parts in their order. A single one wants no memory.
+/// Parts in their order. A single one keeps no memory of its own.
 #[derive(Drop)]
 pub struct Parts {
     kept: Kept,
@@ -31,6 +31,15 @@ impl Model for Parts {
 const _: () = prove!(size_of::<Parts>() == 16);
 
 impl Parts {
+    /// A single part, which wants no memory.
+    pub fn one(part: Part) -> Parts
+        ensures { result ≡ part ∷ [] }
+    {
+        Parts {
+            kept: Kept::One(part),
+        }
+    }
+
     /// These parts.
     pub fn new(alloc: Global, parts: Vec<Part>) -> Result<Parts, AllocError>
         ensures { IfOk result (λ p. p ≡ parts.items) }

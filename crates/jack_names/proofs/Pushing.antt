@@ -34,6 +34,12 @@ alone e old new is adds = adds [] (nothing old is)
 pub means : (e : meaning.Expression) (ps : List Part) → Leaves (e ∷ []) ps → operand 0 (build_expressions [] ps) ≡ e
 means e ps s = ap (operand 0) s.built_is
 
+-- a part alone that has no operands
+pub one_part : (p : Part) → takes p ≡ 0 → Leaves (make_expression p [] ∷ []) (p ∷ [])
+one_part p none =
+    let is : put p [] ≡ make_expression p [] ∷ [] = ap (λ k. make_expression p (reverse (take k [])) ∷ drop k []) none in
+    subst (λ xs. Leaves xs (p ∷ [])) is (puts p [] (p ∷ []) refl [] (omega (arith, none)) (nothing [] refl))
+
 -- a call of one argument
 pub called_one : (a : Expression) (g : ℕ) (new : List Part) → Puts (part.Call 1 g) a.parts new → Leaves (meaning.Call g (one (the_expression a)) ∷ []) new
 called_one a g new p = p (the_expression a ∷ []) (omega arith) (record { built_is = spells [] a; height_is = a.one })

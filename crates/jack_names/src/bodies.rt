@@ -72,7 +72,7 @@ fn let_meant<'a>(
             let value = expression_meant(alloc, scope, value)?;
             Ok(CoreStatement::Store {
                 number,
-                base: variable_meant(alloc, scope, name)?,
+                base: variable_meant(scope, name),
                 index,
                 value,
             })

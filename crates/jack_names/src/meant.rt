@@ -356,30 +356,25 @@ pub(crate) fn call_meant<'a>(
 }
 
 // An expression of one part.
-fn single(alloc: Global, part: Part) -> Result<CoreExpression, AllocError>
+fn single(part: Part) -> CoreExpression
     requires { takes part ≡ 0 }
-    ensures { IfOk result (λ r. the_expression r ≡ make_expression part []) }
+    ensures { the_expression result ≡ make_expression part [] }
 {
-    let mut parts = Vec::with_capacity(alloc, 1)?;
-    push_value(&mut parts, part)?;
-    let kept = Parts::new(alloc, parts)?;
-    Ok(CoreExpression { parts: kept })
+    CoreExpression {
+        parts: Parts::one(part),
+    }
 }
 
-pub(crate) fn literal(alloc: Global, n: u16) -> Result<CoreExpression, AllocError>
-    ensures { IfOk result (λ r. the_expression r ≡ LiteralOf n) }
+pub(crate) fn literal(n: u16) -> CoreExpression
+    ensures { the_expression result ≡ LiteralOf n }
 {
-    single(alloc, Part::Literal(n))
+    single(Part::Literal(n))
 }
 
-pub(crate) fn variable_meant<'a>(
-    alloc: Global,
-    scope: &Scope<'a, '_>,
-    name: &'a Name,
-) -> Result<CoreExpression, AllocError>
-    ensures { IfOk result (λ r. the_expression r ≡ variable_meant (the_scope scope.now) name.now) }
+pub(crate) fn variable_meant<'a>(scope: &Scope<'a, '_>, name: &'a Name) -> CoreExpression
+    ensures { the_expression result ≡ variable_meant (the_scope scope.now) name.now }
 {
-    single(alloc, variable_part(scope, name))
+    single(variable_part(scope, name))
 }
 
 /// A call with one argument.
@@ -412,7 +407,7 @@ pub(crate) fn value_meant<'a>(
     ensures { IfOk result (λ r. the_expression r ≡ value_meant (the_scope scope.now) value.now) }
 {
     match value {
-        None => literal(alloc, 0),
+        None => Ok(literal(0)),
         Some(e) => expression_meant(alloc, scope, e),
     }
 }

@@ -29,7 +29,7 @@ fn begun(
     match form {
         Form::Constructor => {
             let number = made_number(scope, b"Memory".as_slice(), b"alloc".as_slice());
-            let words = literal(alloc, fields.max(1))?;
+            let words = literal(fields.max(1));
             let value = call_one(alloc, number, &words)?;
             let taken = CoreStatement::LetThis { number: 0, value };
             Ok(vec![in alloc; taken]?)
@@ -70,7 +70,7 @@ fn body_meant<'a>(
     let (mut texts, number) = statements_meant(alloc, scope, 1, &s.statements)?;
     body.append(&mut texts)?;
     if !returns(&s.statements) {
-        let value = literal(alloc, 0)?;
+        let value = literal(0);
         body.push(CoreStatement::Return { number, value })?;
     }
     body.shrink_to_fit();

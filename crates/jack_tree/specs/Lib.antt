@@ -1,4 +1,4 @@
 pub mod Tokens
 pub mod Syntax
 pub mod Seen
-pub mod Inner
+pub mod Kept

@@ -1,7 +1,7 @@
 //! Texts of the source. A short one stands in the value itself, so it wants no memory of its own.
 
-ghost use Rattle.std.specs.Prelude.{◌≡◌, IfOk, List, ℕ};
-ghost use Rattle.jack_tree.specs.Inner.Kept.{kept_text};
+ghost use Rattle.std.specs.Prelude.{◌≡◌, ◌≤◌, IfOk, IsOk, List, length, ℕ};
+ghost use Rattle.jack_tree.specs.Kept.{kept_text};
 
 use crate::short::{MOST_SHORT, Short, bytes_of, make_short, str_of};
 use outer_world::Name;
@@ -30,9 +30,10 @@ impl Model for Text {
 }
 
 impl Text {
-    /// The text that a string is.
+    /// The text that a string is. One of at most 14 bytes wants no memory.
     pub fn new(alloc: Global, text: &str) -> Result<Text, AllocError>
-        ensures { IfOk result (λ t. t ≡ text.now) }
+        ensures text { IfOk result (λ t. t ≡ text.now) }
+        ensures short { length text.now ≤ 14 → IsOk result }
     {
         let kept = if text.len() <= MOST_SHORT {
             Kept::Short(make_short(text))

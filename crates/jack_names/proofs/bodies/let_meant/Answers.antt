@@ -5,5 +5,5 @@ use Rattle.jack_names.proofs.bodies.let_meant.Goals as goal
 pub returns-in_ok-value-in-None : goal.returns-in_ok-value-in-None
 returns-in_ok-value-in-None c = grind (arith, common_steps)
 
-pub returns-in_ok-variable_meant-in-Some : goal.returns-in_ok-variable_meant-in-Some
-returns-in_ok-variable_meant-in-Some c = grind (arith, common_steps)
+pub returns-in_ok-value-in-Some : goal.returns-in_ok-value-in-Some
+returns-in_ok-value-in-Some c = grind (arith, common_steps)
