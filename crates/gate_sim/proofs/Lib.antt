@@ -15,3 +15,4 @@ pub mod Taking
 pub mod Placing
 pub mod Fields
 pub mod Idle
+pub mod Blank

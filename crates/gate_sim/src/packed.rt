@@ -260,6 +260,22 @@ impl Packed {
         Ok(packed_of(net, plan, stretches, blank, marking))
     }
 
+    /// Gives all nodes the value 0, as they have it at first.
+    pub(crate) fn reset(&mut self)
+        ensures net { self.new.net ≡ self.old.net }
+        ensures start { (k : ℕ) → value_in self.new.start k ≡ false }
+        ensures fixed { (k : ℕ) → value_in self.new.fixed k ≡ false }
+    {
+        self.slots.fill(Slot {
+            value: 0,
+            change: 0,
+        });
+        self.start.fill(0);
+        self.fixed.fill(0);
+        self.marks.fill(true);
+        self.due.fill(true);
+    }
+
     /// The netlist.
     pub(crate) fn net(&self) -> &Netlist
         ensures { result.now ≡ self.now.net }

@@ -3,7 +3,7 @@
 ghost use Rattle.std.specs.Prelude.{◌≡◌, ◌≤◌, ◌+◌, ◌-◌, ◌||◌, ℕ, ◌<◌, ◌∷◌, [], Bool, true, false, List, length, IfOk, Some, None, is_some, slice_get, MatchOption};
 ghost use Rattle.netlist.specs.Histories.{rank};
 ghost use Rattle.netlist.specs.Present.{value_in};
-ghost use Rattle.netlist.specs.Words.{word_at};
+ghost use Rattle.netlist.specs.Words.{row_of, word_at};
 ghost use Rattle.netlist.specs.Steps.{write_at};
 ghost use Rattle.netlist.specs.declared.node.Node.TheVariants.{Pin};
 ghost use Rattle.netlist.specs.declared.node.Block.{Block};
@@ -104,6 +104,25 @@ fn clear(written: &mut [bool])
     }
 }
 
+// No block takes in a word.
+fn clear_writes(writes: &mut [Option<BlockWrite>])
+    ensures { (b : ℕ) → write_at writes.new b ≡ None }
+{
+    for b in 0..writes.len() {
+        writes[b] = None;
+    }
+}
+
+// All words are 0.
+fn clear_words(memory: &mut [Vec<u16>])
+    ensures sizes { (b : ℕ) → length (row_of memory.new b) ≡ length (row_of memory.old b) }
+    ensures zeros { (b a : ℕ) → word_at memory.new b a ≡ 0 }
+{
+    for b in 0..memory.len() {
+        memory[b].fill(0);
+    }
+}
+
 impl Sim {
     /// A simulator that got no calls: inputs, states and words are 0. Fails only where memory is wanted.
     pub fn new(alloc: Global, net: Netlist) -> Result<Sim, AllocError>
@@ -122,6 +141,19 @@ impl Sim {
             written,
             whole: true,
         })
+    }
+
+    /// Puts it back to what `new` gives for its netlist: it got no calls. It wants no memory.
+    pub fn reset(&mut self)
+        ensures net { self.new.net ≡ self.old.net }
+        ensures stands { StandsFor self.new [] }
+    {
+        self.packed.reset();
+        clear_writes(&mut self.writes);
+        clear_words(&mut self.memory);
+        clear(&mut self.written);
+        self.fresh = false;
+        self.whole = true;
     }
 
     /// Puts words into a block from an address on.

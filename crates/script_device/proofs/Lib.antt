@@ -14,3 +14,4 @@ pub mod Placed
 pub mod Reading
 pub mod Keeping
 pub mod Named
+pub mod Runs

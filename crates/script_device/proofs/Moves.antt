@@ -16,7 +16,7 @@ use Rattle.script_device.specs.declared.probe.Probe.{Probe}
 use Rattle.script_device.specs.declared.device.Device as code
 use Rattle.script_device.specs.declared.device.Device.TheVariants as held
 use Rattle.script_device.specs.Machines as machines
-use Rattle.script_device.specs.Devices.{Device, HasRom, Source, CanSet, SeesAll, after_eval, after_tick, after_tock, value_of, whole_memory, with_image}
+use Rattle.script_device.specs.Devices.{Device, HasRom, Source, CanSet, SeesAll, after_eval, after_restart, after_tick, after_tock, value_of, whole_memory, with_image}
 use Rattle.script_device.specs.Devices.Device.{Empty, Chip, Machine}
 use Rattle.script_device.specs.Devices.Source.{TheTime, OfChip, OfMachine}
 use Rattle.script_device.specs.Inner.Driving.{HasMemory, SetsChip, SetsMachine}
@@ -54,7 +54,7 @@ nothing_set text (OfMachine register) h = h
 pub empty_set : (text : List ℕ) (word : ℕ) (d : Device) → Stands held.Empty d → TellsSet d held.Empty text word false
 empty_set text word = on_empty (λ d. TellsSet d held.Empty text word false) (nothing_set text, tt)
 
--- ---- eval, tick and tock
+-- ---- eval, tick, tock, and back to the start
 
 module _ (c now : DrivenChip) (same : chip_of now ≡ chip_of c) where
   pub chip_eval : ((calls : List Call) → IsDriven c calls → IsDriven now (Eval ∷ calls)) → (d : Device) → Stands (held.Chip c) d → Stands (held.Chip now) (after_eval d)
@@ -65,6 +65,12 @@ module _ (c now : DrivenChip) (same : chip_of now ≡ chip_of c) where
 
   pub chip_tock : ((calls : List Call) → IsDriven c calls → IsDriven now (Tock ∷ calls)) → (d : Device) → Stands (held.Chip c) d → Stands (held.Chip now) (after_tock d)
   chip_tock h = on_chip c (λ d. Stands (held.Chip now) (after_tock d)) (λ calls driven fits evaluated. (sym same, h calls driven, fits, (Tock ∷ calls, refl)))
+
+  pub chip_restart : IsDriven now (Eval ∷ []) → (d : Device) → Stands (held.Chip c) d → Stands (held.Chip now) (after_restart d)
+  chip_restart h = on_chip c (λ d. Stands (held.Chip now) (after_restart d)) (λ calls driven fits evaluated. (sym same, h, fits, (Eval ∷ [], refl)))
+
+pub machine_restart : (m : ScriptMachine) (d : Device) → Stands (held.Machine m) d → Stands (held.Machine m) (after_restart d)
+machine_restart m = on_machine m (λ d. Stands (held.Machine m) (after_restart d)) refl
 
 pub machine_eval : (m : ScriptMachine) (d : Device) → Stands (held.Machine m) d → Stands (held.Machine m) (after_eval d)
 machine_eval m = on_machine m (λ d. Stands (held.Machine m) (after_eval d)) refl

@@ -1,6 +1,6 @@
 -- What a script drives, and what its variables stand for: nothing, a chip, or the instruction machine. (The book, chapters 4 and 5, and
 -- appendix 3.)
-use Rattle.std.specs.Prelude.{◌≡◌, ◌≢◌, ℕ, ◌-◌, Bool, false, List, ◌∷◌, ◌++◌, MatchOption, length, slice_get, replicate, codes}
+use Rattle.std.specs.Prelude.{◌≡◌, ◌≢◌, ℕ, ◌-◌, Bool, false, List, [], ◌∷◌, ◌++◌, MatchOption, length, slice_get, replicate, codes}
 use Rattle.gate_sim.specs.Calls.{Call}
 use Rattle.gate_sim.specs.Calls.Call.{Eval, Load, Tick, Tock}
 use Rattle.script_columns.specs.declared.layout.Value.{Value}
@@ -16,6 +16,11 @@ pub data Device : Type 0 where
   Empty : Device
   Chip : LoadedChip → List Call → Device
   Machine : RunningMachine → Device
+
+abbrev pub IsChip : Device → Type 0
+IsChip Empty = ⊥
+IsChip (Chip chip calls) = Unit {0}
+IsChip (Machine machine) = ⊥
 
 -- what a variable stands for
 pub data Source : Type 0 where
@@ -62,6 +67,12 @@ abbrev pub after_eval : Device → Device
 after_eval Empty = Empty
 after_eval (Chip chip calls) = Chip chip (Eval ∷ calls)
 after_eval (Machine machine) = Machine machine
+
+-- a chip is put back to its start, and evaluated once
+abbrev pub after_restart : Device → Device
+after_restart Empty = Empty
+after_restart (Chip chip calls) = Chip chip (Eval ∷ [])
+after_restart (Machine machine) = Machine machine
 
 abbrev pub after_tick : Device → Device
 after_tick Empty = Empty

@@ -3,3 +3,4 @@ pub mod Sources
 pub mod Registers
 pub mod Driving
 pub mod Naming
+pub mod Wanted

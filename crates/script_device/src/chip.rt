@@ -1,7 +1,9 @@
 //! A chip that a script drives.
 
-ghost use Rattle.script_device.specs.Directory.{AreSizes, OfNamed};
+ghost use Rattle.std.specs.Prelude.{◌≡◌, true};
+ghost use Rattle.script_device.specs.Directory.{AreSizes, OfNamed, named_of};
 ghost use Rattle.script_device.specs.Simulated.{IsSeen, net_of};
+ghost use Rattle.script_device.specs.Inner.Wanted.{keeps_wanted};
 
 use crate::chip_sim::ChipSim;
 use crate::directory::Directory;
@@ -15,6 +17,7 @@ pub struct DrivenChip {
     pub(crate) directory: Directory,
     ghost sized: { AreSizes sizes.items (net_of sim.frame) },
     ghost named: { OfNamed (IsSeen sim.frame) directory },
+    ghost wanted: { keeps_wanted (named_of directory) sim.frame.whole ≡ true },
 }
 
 // By hand, so that whoever drops one calls this.

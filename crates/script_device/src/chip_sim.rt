@@ -1,6 +1,6 @@
 //! A simulator of a chip, whose netlist may be a simplified one. It is set and read by the nodes of the chip.
 
-ghost use Rattle.std.specs.Prelude.{◌≡◌, ◌<◌, ◌≤◌, ◌+◌, ◌-◌, ◌^◌, ℕ, Bool, List, [], ◌∷◌, Some, None, IfOk, OnOk, MatchOption, length, slice_get, slice_index};
+ghost use Rattle.std.specs.Prelude.{◌≡◌, ◌<◌, ◌≤◌, ◌+◌, ◌-◌, ◌^◌, ℕ, Bool, List, [], ◌∷◌, Some, None, IfOk, OnOk, MatchOption, true, false, length, slice_get, slice_index};
 ghost use Rattle.std.specs.List.{All, Contains};
 ghost use Rattle.netlist.specs.Histories.{rank};
 ghost use Rattle.netlist.specs.declared.node.Node.TheVariants.{Pin};
@@ -8,7 +8,7 @@ ghost use Rattle.gate_sim.specs.Calls.{Call, cycle_of, evaluated_calls};
 ghost use Rattle.gate_sim.specs.Calls.Call.{Eval, Load, Set, Tick, Tock};
 ghost use Rattle.gate_sim.specs.Values.{AreValues, words_of};
 ghost use Rattle.script_device.specs.Inner.Naming.{with_pin};
-ghost use Rattle.script_device.specs.Simulated.{IsSeen, IsSimple, IsWanted, ReadsAs, WasTold, net_of, place_in, stored_at};
+ghost use Rattle.script_device.specs.Simulated.{IsPlaced, IsSeen, IsSimple, IsWanted, ReadsAs, WasTold, net_of, place_in, stored_at};
 
 use gate_sim::Sim;
 use net_simplify::{Simple, simplify};
@@ -154,6 +154,23 @@ impl ChipSim {
             sim: Sim::new(alloc, simple)?,
             whole: Some(WholeNet { net, kept, places }),
         })
+    }
+
+    /// Puts it back to its start: it got no calls.
+    pub fn reset(&mut self)
+        ensures frame { self.new.frame ≡ self.old.frame }
+        ensures stands { WasTold self.new [] }
+    {
+        self.sim.reset();
+    }
+
+    /// Whether its netlist is a simplified one.
+    pub fn is_simplified(&self) -> bool
+        ensures simple { result ≡ true → MatchOption self.now.frame.whole ⊥
+            (λ whole. IsPlaced whole self.now.frame.net) }
+        ensures own { result ≡ false → self.now.frame.whole ≡ None }
+    {
+        self.whole.is_some()
     }
 
     /// Puts words into a block from an address on.

@@ -1,11 +1,11 @@
 //! What a script drives, and what it sees of it.
 
-ghost use Rattle.std.specs.Prelude.{◌≡◌, ◌≤◌, ◌<◌, ◌+◌, ◌^◌, ◌↔◌, ℕ, Bool, IfOk, IsTrue, List, MatchOption, codes, length, take};
+ghost use Rattle.std.specs.Prelude.{◌≡◌, ◌≤◌, ◌<◌, ◌+◌, ◌^◌, ◌↔◌, ℕ, Bool, IfOk, IsTrue, List, MatchOption, codes, length, take, true};
 ghost use Rattle.gate_sim.specs.Calls.{Call};
 ghost use Rattle.script_device.specs.Directory.{FitsNet};
 ghost use Rattle.script_device.specs.Driven.{ChipRuns, IsDriven, Sees, chip_of, time_of};
 ghost use Rattle.script_device.specs.Devices as devices;
-ghost use Rattle.script_device.specs.Devices.{SeesAll, after_eval, after_tick, after_tock, value_of, whole_memory};
+ghost use Rattle.script_device.specs.Devices.{IsChip, SeesAll, after_eval, after_restart, after_tick, after_tock, value_of, whole_memory};
 ghost use Rattle.script_device.specs.Devices.Device.{Chip, Machine};
 ghost use Rattle.script_device.specs.Inner.Driving.{HasMemory, IsWhole, SetsChip, SetsMachine};
 ghost use Rattle.script_device.specs.Inner.Sources.{source_of};
@@ -222,6 +222,30 @@ impl Device {
             Device::Empty => false,
             Device::Chip(chip) => set_variable(chip, text, word),
             Device::Machine(machine) => set_register(machine, text, word),
+        }
+    }
+
+    /// Puts a chip back to where its load left it: at its start, and evaluated once. What is no chip stays as it is.
+    pub fn restart(&mut self)
+        ensures stands { (d : devices.Device) → Stands self.old d
+            → Stands self.new (after_restart d) }
+        ensures runs { (simplify : Bool) → DeviceRuns simplify self.old
+            → DeviceRuns simplify self.new }
+    {
+        if let Device::Chip(chip) = self {
+            chip.reset();
+            chip.eval();
+        }
+    }
+
+    /// Whether it is a chip, whose netlist that runs is a simplified one with `simplify`, and its own without.
+    pub fn is_chip(&self, simplify: bool) -> bool
+        ensures chip { (d : devices.Device) → Stands self.now d → result ≡ true → IsChip d }
+        ensures runs { result ≡ true → DeviceRuns simplify self.now }
+    {
+        match self {
+            Device::Empty | Device::Machine(_) => false,
+            Device::Chip(chip) => chip.is_simplified() == simplify,
         }
     }
 

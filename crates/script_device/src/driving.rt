@@ -117,6 +117,25 @@ impl DrivenChip {
         })
     }
 
+    /// Puts it back to its start: it got no calls, and the time is 0.
+    pub fn reset(&mut self)
+        ensures kept { chip_of self.new ≡ chip_of self.old }
+        ensures time { time_of self.new ≡ 0 }
+        ensures runs { (simplify : Bool) → ChipRuns simplify self.old → ChipRuns simplify self.new }
+        ensures driven { IsDriven self.new [] }
+    {
+        self.sim.reset();
+        self.cycle = 0;
+        self.ticked = false;
+    }
+
+    /// Whether its netlist is a simplified one.
+    pub fn is_simplified(&self) -> bool
+        ensures { ChipRuns result self.now }
+    {
+        self.sim.is_simplified()
+    }
+
     /// Sets an input's nodes to the low bits of a word. It shows only after an evaluation.
     pub fn set_bus(&mut self, nodes: &[u32], word: u16)
         requires { IsInput (chip_of self.old).net nodes.now }

@@ -133,7 +133,7 @@ module _ (setting : Setting) (there : List ℕ → Bool) (unfailing : Type 0) (s
 
 -- a script whose text is read
 pub run_ends : (path : List ℕ) (memories : Memories) (files files' : Option Files) (there there' : List ℕ → Bool) (u u' : Type 0) (o o1 o2 : SinkState) (p0 p : List ℕ) (e e1 : SinkState) (acts : List Act) (first state : State) (end : Result (Unit {0}) Stop) (compares : Bool) (result : Result Verdict ScriptError)
-    → p0 ≡ [] → HasActs (setting_of path files memories) acts → Ran path memories files files' there there' u u' o.written o1.written p0 p e.written e1.written acts first state end → IsState first at_first → compares ≡ is_some state.compared → Finishes (is_cut end) o1 o2 p (verdict_of end compares) result
+    → p0 ≡ [] → HasActs (setting_of path files memories) acts → Ran path memories files files' there there' u u' o.written o1.written p0 p e.written e1.written acts first state end → IsState (setting_of path files memories) first at_first → compares ≡ is_some state.compared → Finishes (is_cut end) o1 o2 p (verdict_of end compares) result
     → Runs (setting_of path files memories) there u o o2 e e1 result
 run_ends path memories files files' there there' u u' o o1 o2 p0 p e e1 acts first state end compares result empty are ran begins same fin =
     ends (setting_of path files memories) there u o o1 o2 e e1 p acts state end result are

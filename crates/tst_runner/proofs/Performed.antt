@@ -23,7 +23,7 @@ use Rattle.tst_runner.specs.Effects.{Does, Faults, PutsLine}
 use Rattle.tst_runner.specs.Ends.{Asks, whole}
 use Rattle.tst_runner.specs.Inner.Outlets.{HasPassed}
 use Rattle.script_device.specs.Running.{TellsImage}
-use Rattle.tst_runner.proofs.Kept.{IsState-device, Keeps-image}
+use Rattle.tst_runner.proofs.Kept.{IsState-device, Keeps-image, Stays-image}
 use Rattle.tst_runner.specs.Inner.States.{Becomes, CountsStop, IsDevice, IsState, Misses, Performs, PutsEcho, PutsOut, Quietly, StandsThere, StopsAtName}
 
 module _ (setting : Setting) (there : List ℕ → Bool) (unfailing : Type 0) (out out' err err' : Option (List ℕ)) (pending : List ℕ) where
@@ -49,7 +49,7 @@ module _ (setting : Setting) (there : List ℕ → Bool) (unfailing : Type 0) (o
 
   pub Performs-line : (s r : Standing) (act : Act) (line : List ℕ) (state : State) (result : Result (Unit {0}) Stop)
       → PutsLine setting s act r line → r.out ≡ s.out → r.err ≡ s.err → r.compared ≡ s.compared
-      → PutsOut out out' err err' pending r line state result → Performs setting there unfailing out out' err err' pending s act state result
+      → PutsOut out out' err err' pending setting r line state result → Performs setting there unfailing out out' err err' pending s act state result
   Performs-line s r act line state (Ok u) puts e f k h = (with_line r line, inr (r, line, puts, h.0.0, refl), h.0.1, h.1)
   Performs-line s r act line state (Err (stops.Unloaded (loads.Refused w))) puts e f k h = absurd h
   Performs-line s r act line state (Err (stops.Unloaded loads.Failed)) puts e f k h = absurd h
@@ -75,7 +75,7 @@ module _ (setting : Setting) (there : List ℕ → Bool) (unfailing : Type 0) (o
 
   pub Performs-becomes : (s t : Standing) (act : Act) (state : State) (result : Result (Unit {0}) Stop)
       → Does setting s act t → t.out ≡ s.out → t.err ≡ s.err → StandsThere out out' err err' pending s
-      → Becomes state t result → Performs setting there unfailing out out' err err' pending s act state result
+      → Becomes setting state t result → Performs setting there unfailing out out' err err' pending s act state result
   Performs-becomes s t act state (Ok u) does e f stays h = (t, inl does, h, Stays-same s t (sym e) (sym f) stays)
   Performs-becomes s t act state (Err (stops.Unloaded (loads.Refused r))) does e f stays h = absurd h
   Performs-becomes s t act state (Err (stops.Unloaded loads.Failed)) does e f stays h = absurd h
@@ -85,11 +85,11 @@ module _ (setting : Setting) (there : List ℕ → Bool) (unfailing : Type 0) (o
   Performs-becomes s t act state (Err stops.Err) does e f stays h = absurd h
 
 pub Performs-echo : (setting : Setting) (there : List ℕ → Bool) (unfailing : Type 0) (out out' err mid err' : Option (List ℕ)) (pending : List ℕ) (s : Standing) (text : List ℕ) (state : State) (result : Result (Unit {0}) Stop)
-    → IsState state s → StandsThere out out' err mid pending s → PutsEcho mid err' text result → Performs setting there unfailing out out' err err' pending s (acts.Echo text) state result
+    → IsState setting state s → StandsThere out out' err mid pending s → PutsEcho mid err' text result → Performs setting there unfailing out out' err err' pending s (acts.Echo text) state result
 Performs-echo setting there unfailing out out' err mid err' pending s text state (Ok u) is stays h = (
   with_echo s text,
   inl refl,
-  record { device = is.device; columns = is.columns; compared = is.compared; lines = is.lines },
+  record { device = is.device; loaded = is.loaded; columns = is.columns; compared = is.compared; lines = is.lines },
   record { on_out = stays.on_out; on_err = Got-then err mid err' s.err (text ++ 10 ∷ []) stays.on_err h },
 )
 Performs-echo setting there unfailing out out' err mid err' pending s text state (Err (stops.Unloaded e)) is stays h = absurd h
@@ -142,10 +142,10 @@ Does-load setting s file d (inl h) = inl (h.0, h.1, ap (λ x. record s { device 
 Does-load setting s file d (inr h) = inr (h.0, (h.1.0, h.1.1, ap (λ x. record s { device = x; items = [] }) h.1.2))
 
 pub Quietly-image : (setting : Setting) (missed : Type 0) (s : Standing) (word file : Placed) (state : State) (device : code.Device) (image : List ℕ) (loaded : Bool)
-    → HasRom s.device → IsImage setting file.text image → IsState state s → TellsImage s.device device image (Ok loaded)
+    → HasRom s.device → IsImage setting file.text image → IsState setting state s → TellsImage s.device device image (Ok loaded)
     → Quietly setting missed s (acts.LoadRom word file) (record state { device = device }) (Ok tt)
 Quietly-image setting missed s word file state device image true rom is_image is h =
-    (record s { device = with_image s.device h.0 image }, (h.0, (image, is_image, refl)), IsState-device state s device (with_image s.device h.0 image) is (Keeps-image s.device h.0 image) h.1, refl, refl)
+    (record s { device = with_image s.device h.0 image }, (h.0, (image, is_image, refl)), IsState-device setting state s device (with_image s.device h.0 image) is (Keeps-image s.device h.0 image) (Stays-image s.device h.0 image) h.1, refl, refl)
 Quietly-image setting missed s word file state device image false rom is_image is h = absurd (h.0 rom)
 
 -- ---- counts
@@ -160,11 +160,11 @@ CountsStop-quietly setting s act state (Err (stops.Differs d)) h o e q = absurd 
 CountsStop-quietly setting s act state (Err stops.Out) h o e q = absurd q
 CountsStop-quietly setting s act state (Err stops.Err) h o e q = absurd q
 
-pub CountsStop-becomes : (state : State) (t : Standing) (result : Result (Unit {0}) Stop) (h o e : ℕ) → Becomes state t result → CountsStop h h o o e e result
-CountsStop-becomes state t (Ok u) h o e q = (refl, refl, refl)
-CountsStop-becomes state t (Err (stops.Unloaded (loads.Refused r))) h o e q = absurd q
-CountsStop-becomes state t (Err (stops.Unloaded loads.Failed)) h o e q = absurd q
-CountsStop-becomes state t (Err (stops.Unloaded loads.Memory)) h o e q = (refl, refl, refl)
-CountsStop-becomes state t (Err (stops.Differs d)) h o e q = absurd q
-CountsStop-becomes state t (Err stops.Out) h o e q = absurd q
-CountsStop-becomes state t (Err stops.Err) h o e q = absurd q
+pub CountsStop-becomes : (setting : Setting) (state : State) (t : Standing) (result : Result (Unit {0}) Stop) (h o e : ℕ) → Becomes setting state t result → CountsStop h h o o e e result
+CountsStop-becomes setting state t (Ok u) h o e q = (refl, refl, refl)
+CountsStop-becomes setting state t (Err (stops.Unloaded (loads.Refused r))) h o e q = absurd q
+CountsStop-becomes setting state t (Err (stops.Unloaded loads.Failed)) h o e q = absurd q
+CountsStop-becomes setting state t (Err (stops.Unloaded loads.Memory)) h o e q = (refl, refl, refl)
+CountsStop-becomes setting state t (Err (stops.Differs d)) h o e q = absurd q
+CountsStop-becomes setting state t (Err stops.Out) h o e q = absurd q
+CountsStop-becomes setting state t (Err stops.Err) h o e q = absurd q

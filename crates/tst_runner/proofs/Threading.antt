@@ -135,11 +135,11 @@ module _ (setting : Setting) (there : List ℕ → Bool) where
 
 -- Acts are done, or some up to one that stops: the shelf, out with what is pending, err and the state before and now.
 pub record Ran (path : List ℕ) (memories : Memories) (files files' : Option Files) (there there' : List ℕ → Bool) (unfailing unfailing' : Type 0) (out out' : Option (List ℕ)) (pending pending' : List ℕ) (err err' : Option (List ℕ)) (acts : List Act) (state state' : State) (result : Result (Unit {0}) Stop) : Type 0 where
-  pub does : (w e : Option (List ℕ)) (s : Standing) → IsState state s → StandsThere w out e err pending s → PerformsAll (setting_of path files memories) there unfailing w out' e err' pending' s acts state' result
+  pub does : (w e : Option (List ℕ)) (s : Standing) → IsState (setting_of path files memories) state s → StandsThere w out e err pending s → PerformsAll (setting_of path files memories) there unfailing w out' e err' pending' s acts state' result
   pub keeps : Keeps (shelf_state files there unfailing) (shelf_state files' there' unfailing')
 
 pub ran_of : {path : List ℕ} {memories : Memories} {files : Option Files} {there : List ℕ → Bool} {u : Type 0} {o : Option (List ℕ)} {p : List ℕ} {e : Option (List ℕ)} {state : State} (files' : Option Files) (there' : List ℕ → Bool) (u' : Type 0) (o' : Option (List ℕ)) (p' : List ℕ) (e' : Option (List ℕ)) (acts : List Act) (state' : State) (r : Result (Unit {0}) Stop)
-    → ((w v : Option (List ℕ)) (s : Standing) → IsState state s → StandsThere w o v e p s → PerformsAll (setting_of path files memories) there u w o' v e' p' s acts state' r)
+    → ((w v : Option (List ℕ)) (s : Standing) → IsState (setting_of path files memories) state s → StandsThere w o v e p s → PerformsAll (setting_of path files memories) there u w o' v e' p' s acts state' r)
     → Keeps (shelf_state files there u) (shelf_state files' there' u') → Ran path memories files files' there there' u u' o o' p p' e e' acts state state' r
 ran_of files' there' u' o' p' e' acts state' r does keeps = record { does = does; keeps = keeps }
 
@@ -153,7 +153,7 @@ pub ran_then : {path : List ℕ} {memories : Memories} {files files1 files2 : Op
 ran_then {path} {memories} {files} {files1} {files2} {there} {there1} {there2} {u} {u1} {u2} {o} {o1} {o2} {p} {p1} {p2} {e} {e1} {e2} {state} {state1} {state2} {r} xs ys h k = record {
   does = λ w v s at stands.
       let q = h.does w v s at stands in
-      let here = k.does w v q.0 q.2 q.3 in
+      let here = k.does w v q.0 (subst (λ (x : Option Files). IsState (setting_of path x memories) state1 q.0) (sym h.keeps.files) q.2) q.3 in
       let files_kept = subst (λ (x : Option Files). PerformsAll (setting_of path x memories) there1 u1 w o2 v e2 p2 q.0 ys state2 r) h.keeps.files here in
       let there_kept = subst (λ (x : List ℕ → Bool). PerformsAll (setting_of path files memories) x u1 w o2 v e2 p2 q.0 ys state2 r) h.keeps.there files_kept in
       all_behind (setting_of path files memories) there u w o2 v e2 p2 s q.0 xs ys state2 r q.1 (all_weaker (setting_of path files memories) there u u1 w o2 v e2 p2 q.0 ys state2 r h.keeps.unfailing there_kept);
@@ -187,11 +187,11 @@ counts_then a a1 a2 b b1 b2 c c1 c2 r h k =
 
 -- ---- what acts ask for, that the state is some standing, stays so
 
-abbrev pub Holds : State → Option (List ℕ) → Option (List ℕ) → List ℕ → Type 0
-Holds state out err pending = (w e : Option (List ℕ)) × ((s : Standing) × IsState state s × StandsThere w out e err pending s)
+abbrev pub Holds : Setting → State → Option (List ℕ) → Option (List ℕ) → List ℕ → Type 0
+Holds setting state out err pending = (w e : Option (List ℕ)) × ((s : Standing) × IsState setting state s × StandsThere w out e err pending s)
 
 pub holds_then : {path : List ℕ} {memories : Memories} {files files1 : Option Files} {there there1 : List ℕ → Bool} {u u1 : Type 0} {o o1 : Option (List ℕ)} {p p1 : List ℕ} {e e1 : Option (List ℕ)} {state state1 : State} (xs : List Act)
-    → Ran path memories files files1 there there1 u u1 o o1 p p1 e e1 xs state state1 (Ok tt) → Holds state o e p → Holds state1 o1 e1 p1
-holds_then xs h (w, v, (s, at, stands)) =
+    → Ran path memories files files1 there there1 u u1 o o1 p p1 e e1 xs state state1 (Ok tt) → Holds (setting_of path files memories) state o e p → Holds (setting_of path files1 memories) state1 o1 e1 p1
+holds_then {path} {memories} {state1 = state1} xs h (w, v, (s, at, stands)) =
     let q = h.does w v s at stands in
-    (w, v, (q.0, q.2, q.3))
+    (w, v, (q.0, subst (λ (x : Option Files). IsState (setting_of path x memories) state1 q.0) (sym h.keeps.files) q.2, q.3))

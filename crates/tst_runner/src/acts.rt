@@ -1,6 +1,6 @@
 //! The acts of a script, one by one.
 
-ghost use Rattle.std.specs.Prelude.{◌≡◌, ◌<◌, ◌+◌, ◌^◌, ◌++◌, ◌∷◌, [], Bool, List, ℕ, Option, IfOk, OnOk};
+ghost use Rattle.std.specs.Prelude.{◌≡◌, ◌<◌, ◌+◌, ◌^◌, ◌++◌, ◌∷◌, [], Bool, List, ℕ, Option, IfOk, OnOk, true};
 ghost use Rattle.std.specs.Str.Lossy.{utf8_lossy};
 ghost use Rattle.outer_world.specs.Files.{path_in};
 ghost use Rattle.outer_world.specs.Written.{CountsPut, Puts};
@@ -8,12 +8,12 @@ ghost use Rattle.outer_world.specs.Held.{HaveSameSink, pending, sink_of};
 ghost use Rattle.outer_world.specs.State.{Keeps};
 ghost use Rattle.script_parser.specs.declared.tree.Act.TheVariants as acts;
 ghost use Rattle.script_device.specs.Devices as devices;
-ghost use Rattle.script_device.specs.Devices.{after_tock};
+ghost use Rattle.script_device.specs.Devices.{IsChip, after_tock};
 ghost use Rattle.script_device.specs.Running.{DeviceRuns, Stands};
 ghost use Rattle.tst_runner.specs.Setting.{Setting, folder_of, setting_of};
 ghost use Rattle.tst_runner.specs.Standing.{Standing};
 ghost use Rattle.tst_runner.specs.Inner.Outlets.{HasPassed, PutsBehind};
-ghost use Rattle.tst_runner.specs.Inner.States.{Becomes, Compares, CountsStop, FindsColumns, IsNameStop, IsState, Misses, Performs, PutsEcho, PutsOut, Quietly, StandsThere};
+ghost use Rattle.tst_runner.specs.Inner.States.{Becomes, Compares, CountsStop, FindsColumns, IsFrom, IsNameStop, IsState, Misses, Performs, PutsEcho, PutsOut, Quietly, StandsThere};
 
 use crate::files::{load_compared, load_image, path_beside};
 use crate::lines::{Column, names_line, values_line};
@@ -60,8 +60,9 @@ fn no_name(alloc: Global, path: &str, word: &Placed) -> Stop
 // Counts a line that was put, and compares it with that of the compare file.
 fn compare(line: &[u8], state: &mut State) -> Result<(), Stop>
     requires room { state.old.lines + 1 < 2 ^ 64 }
-    requires stands { (r : Standing) × IsState state.old r }
-    ensures { (r : Standing) → IsState state.old r → Compares r line.now state.new result }
+    requires stands { (setting : Setting) × ((r : Standing) × IsState setting state.old r) }
+    ensures { (setting : Setting) (r : Standing) → IsState setting state.old r
+        → Compares setting r line.now state.new result }
 {
     state.lines += 1;
     let Some(file) = state.compared.take() else {
@@ -97,10 +98,12 @@ fn put_behind<O: Sink>(text: &[u8], out: &mut Pieces<'_, O>) -> Put
 
 // Puts a line, and compares it.
 fn put_line<O: Sink>(line: Vec<u8>, state: &mut State, out: &mut Pieces<'_, O>) -> Result<(), Stop>
-    requires { (r : Standing) × IsState state.old r }
-    ensures puts { (w e f : Option (List ℕ)) (r : Standing) → IsState state.old r
-        → StandsThere w (O.state (sink_of out.old)).written e f (pending out.old) r → PutsOut w
-        (O.state (sink_of out.new)).written e f (pending out.new) r line.items state.new result }
+    requires { (setting : Setting) × ((r : Standing) × IsState setting state.old r) }
+    ensures puts { (setting : Setting)
+        (w e f : Option (List ℕ)) (r : Standing) → IsState setting state.old r
+        → StandsThere w (O.state (sink_of out.old)).written e f (pending out.old) r
+        → PutsOut w (O.state (sink_of out.new)).written e f (pending out.new) setting r line.items
+        state.new result }
     ensures counts { (h e : ℕ) → CountsStop h h (O.state (sink_of out.old)).faults
         (O.state (sink_of out.new)).faults e e result }
     ensures same_sink { HaveSameSink out.old out.new }
@@ -117,8 +120,8 @@ fn put_line<O: Sink>(line: Vec<u8>, state: &mut State, out: &mut Pieces<'_, O>) 
 }
 
 fn tock(state: &mut State) -> Result<(), Stop>
-    ensures { (s : Standing) → IsState state.old s
-        → Becomes state.new (record s { device = after_tock s.device }) result }
+    ensures { (setting : Setting) (s : Standing) → IsState setting state.old s
+        → Becomes setting state.new (record s { device = after_tock s.device }) result }
 {
     if state.device.steps() >= MOST_STEPS {
         return Err(Stop::Unloaded(LoadError::Memory));
@@ -132,9 +135,9 @@ fn put_values<O: Sink>(
     state: &mut State,
     out: &mut Pieces<'_, O>,
 ) -> Result<(), Stop>
-    requires { (s : Standing) × IsState state.old s }
+    requires { (setting : Setting) × ((s : Standing) × IsState setting state.old s) }
     ensures does { (setting : Setting) (there : List ℕ → Bool)
-        (w e f : Option (List ℕ)) (s : Standing) → IsState state.old s
+        (w e f : Option (List ℕ)) (s : Standing) → IsState setting state.old s
         → StandsThere w (O.state (sink_of out.old)).written e f (pending out.old) s
         → Performs setting there ⊥ w (O.state (sink_of out.new)).written e f (pending out.new) s
         (acts.Step Step.Output) state.new result }
@@ -152,9 +155,9 @@ fn do_step<O: Sink>(
     state: &mut State,
     out: &mut Pieces<'_, O>,
 ) -> Result<(), Stop>
-    requires { (s : Standing) × IsState state.old s }
+    requires { (setting : Setting) × ((s : Standing) × IsState setting state.old s) }
     ensures does { (setting : Setting) (there : List ℕ → Bool)
-        (w e f : Option (List ℕ)) (s : Standing) → IsState state.old s
+        (w e f : Option (List ℕ)) (s : Standing) → IsState setting state.old s
         → StandsThere w (O.state (sink_of out.old)).written e f (pending out.old) s
         → Performs setting there ⊥ w (O.state (sink_of out.new)).written e f (pending out.new) s
         (acts.Step step) state.new result }
@@ -210,9 +213,10 @@ fn do_list<O: Sink>(
     state: &mut State,
     out: &mut Pieces<'_, O>,
 ) -> Result<(), Stop>
-    requires { (s : Standing) × IsState state.old s }
+    requires { (setting : Setting) × ((s : Standing) × IsState setting state.old s) }
     ensures does { (setting : Setting) (there : List ℕ → Bool)
-        (w e f : Option (List ℕ)) (s : Standing) → setting.path ≡ path.now → IsState state.old s
+        (w e f : Option (List ℕ)) (s : Standing) → setting.path ≡ path.now
+        → IsState setting state.old s
         → StandsThere w (O.state (sink_of out.old)).written e f (pending out.old) s
         → Performs setting there ⊥ w (O.state (sink_of out.new)).written e f (pending out.new) s
         (acts.OutputList items.now) state.new result }
@@ -233,8 +237,9 @@ fn do_set(
     word: u16,
     state: &mut State,
 ) -> Result<(), Stop>
-    requires { (s : Standing) × IsState state.old s }
-    ensures { (setting : Setting) (s : Standing) → setting.path ≡ path.now → IsState state.old s
+    requires { (setting : Setting) × ((s : Standing) × IsState setting state.old s) }
+    ensures { (setting : Setting) (s : Standing) → setting.path ≡ path.now
+        → IsState setting state.old s
         → Quietly setting ⊥ s (acts.Set variable.now word) state.new result }
 {
     if state.device.set(variable.text.as_slice(), word) {
@@ -261,6 +266,18 @@ fn do_echo<E: Sink>(text: &[u8], err: &mut E) -> Result<(), Stop>
     }
 }
 
+// Whether the device is the chip of a file already, with the netlist that is to run for it.
+fn is_there(simplify: bool, file: &[u8], state: &State) -> bool
+    ensures chip { (setting : Setting) (s : Standing) → IsState setting state.now s
+        → result ≡ true → IsChip s.device × IsFrom setting file.now s.device }
+    ensures runs { result ≡ true → DeviceRuns simplify state.now.device }
+{
+    match &state.loaded {
+        None => false,
+        Some(loaded) => loaded.as_slice() == file && state.device.is_chip(simplify),
+    }
+}
+
 fn do_load<F: Shelf>(
     alloc: Global,
     script: Script<'_>,
@@ -268,7 +285,9 @@ fn do_load<F: Shelf>(
     state: &mut State,
     shelf: &mut F,
 ) -> Result<(), Stop>
-    ensures does { (s : Standing) → IsState state.old s
+    ensures does { (s : Standing) → IsState
+        (setting_of script.entry.path.now (F.state shelf.old).files script.entry.memories)
+        state.old s
         → Quietly (setting_of script.entry.path.now (F.state shelf.old).files script.entry.memories)
         (Misses (setting_of script.entry.path.now (F.state shelf.old).files script.entry.memories)
         (F.state shelf.old).there (F.state shelf.old).unfailing s (acts.Load file.now))
@@ -278,7 +297,13 @@ fn do_load<F: Shelf>(
         → CountsStop (F.faults shelf.old) (F.faults shelf.new) o o e e result }
     ensures keeps { Keeps (F.state shelf.old) (F.state shelf.new) }
 {
+    if is_there(script.simplify, file.text.as_slice(), state) {
+        state.device.restart();
+        state.columns = Vec::new(alloc);
+        return Ok(());
+    }
     state.device = load_device(alloc, script, file.text.as_slice(), shelf)?;
+    state.loaded = Some(Vec::from_slice(alloc, file.text.as_slice())?);
     state.columns = Vec::new(alloc);
     Ok(())
 }
@@ -298,7 +323,9 @@ fn do_compare<F: Shelf>(
     state: &mut State,
     shelf: &mut F,
 ) -> Result<(), Stop>
-    ensures does { (s : Standing) → IsState state.old s
+    ensures does { (s : Standing) → IsState
+        (setting_of script.entry.path.now (F.state shelf.old).files script.entry.memories)
+        state.old s
         → Quietly (setting_of script.entry.path.now (F.state shelf.old).files script.entry.memories)
         (Misses (setting_of script.entry.path.now (F.state shelf.old).files script.entry.memories)
         (F.state shelf.old).there (F.state shelf.old).unfailing s (acts.CompareTo file.now))
@@ -322,7 +349,9 @@ fn do_rom<F: Shelf>(
     state: &mut State,
     shelf: &mut F,
 ) -> Result<(), Stop>
-    ensures does { (s : Standing) → IsState state.old s
+    ensures does { (s : Standing) → IsState
+        (setting_of script.entry.path.now (F.state shelf.old).files script.entry.memories)
+        state.old s
         → Quietly (setting_of script.entry.path.now (F.state shelf.old).files script.entry.memories)
         (Misses (setting_of script.entry.path.now (F.state shelf.old).files script.entry.memories)
         (F.state shelf.old).there (F.state shelf.old).unfailing s (acts.LoadRom word.now file.now))
@@ -349,10 +378,13 @@ pub fn perform<F: Shelf, O: Sink, E: Sink>(
     out: &mut Pieces<'_, O>,
     err: &mut E,
 ) -> Result<(), Stop>
-    requires { (w e : Option (List ℕ)) × ((s : Standing) × IsState state.old s × StandsThere w
+    requires { (w e : Option (List ℕ)) × ((s : Standing) × IsState
+        (setting_of script.path.now (F.state shelf.old).files script.memories) state.old s
+        × StandsThere w
         (O.state (sink_of out.old)).written e (E.state err.old).written (pending out.old) s) }
-    ensures does { (w e : Option (List ℕ)) (s : Standing)
-        → IsState state.old s → StandsThere w (O.state (sink_of out.old)).written e
+    ensures does { (w e : Option (List ℕ)) (s : Standing) → IsState
+        (setting_of script.entry.path.now (F.state shelf.old).files script.entry.memories)
+        state.old s → StandsThere w (O.state (sink_of out.old)).written e
         (E.state err.old).written (pending out.old) s → Performs (setting_of script.entry.path.now
         (F.state shelf.old).files script.entry.memories) (F.state shelf.old).there
         (F.state shelf.old).unfailing w (O.state (sink_of out.new)).written e

@@ -27,10 +27,13 @@ fn run_command<F: Shelf, O: Sink, E: Sink>(
     out: &mut Pieces<'_, O>,
     err: &mut E,
 ) -> Result<(), Stop>
-    requires { (w e : Option (List ℕ)) × ((s : Standing) × IsState state.old s × StandsThere w
+    requires { (w e : Option (List ℕ)) × ((s : Standing) × IsState
+        (setting_of script.path.now (F.state shelf.old).files script.memories) state.old s
+        × StandsThere w
         (O.state (sink_of out.old)).written e (E.state err.old).written (pending out.old) s) }
-    ensures does { (w e : Option (List ℕ)) (s : Standing)
-        → IsState state.old s → StandsThere w (O.state (sink_of out.old)).written e
+    ensures does { (w e : Option (List ℕ)) (s : Standing) → IsState
+        (setting_of script.entry.path.now (F.state shelf.old).files script.entry.memories)
+        state.old s → StandsThere w (O.state (sink_of out.old)).written e
         (E.state err.old).written (pending out.old) s → PerformsAll
         (setting_of script.entry.path.now (F.state shelf.old).files script.entry.memories)
         (F.state shelf.old).there (F.state shelf.old).unfailing w
@@ -64,10 +67,13 @@ pub fn run_commands<F: Shelf, O: Sink, E: Sink>(
     out: &mut Pieces<'_, O>,
     err: &mut E,
 ) -> Result<(), Stop>
-    requires { (w e : Option (List ℕ)) × ((s : Standing) × IsState state.old s × StandsThere w
+    requires { (w e : Option (List ℕ)) × ((s : Standing) × IsState
+        (setting_of script.path.now (F.state shelf.old).files script.memories) state.old s
+        × StandsThere w
         (O.state (sink_of out.old)).written e (E.state err.old).written (pending out.old) s) }
-    ensures does { (w e : Option (List ℕ)) (s : Standing)
-        → IsState state.old s → StandsThere w (O.state (sink_of out.old)).written e
+    ensures does { (w e : Option (List ℕ)) (s : Standing) → IsState
+        (setting_of script.entry.path.now (F.state shelf.old).files script.entry.memories)
+        state.old s → StandsThere w (O.state (sink_of out.old)).written e
         (E.state err.old).written (pending out.old) s → PerformsAll
         (setting_of script.entry.path.now (F.state shelf.old).files script.entry.memories)
         (F.state shelf.old).there (F.state shelf.old).unfailing w

@@ -96,8 +96,8 @@ fn next_new<'a>(
     requires indexed { IsIndexed gathered.now }
     ensures { (told : Option Files) → MatchOption result (Leads (sources_of places.now told)
         (reverse stack.old.items) gathered.now.entries.items [] gathered.now.entries.items)
-        (λ next. IsNext (sources_of places.now told)
-        (reverse stack.old.items) gathered.now.entries.items next.0 next.1 (reverse stack.new.items)) }
+        (λ next. IsNext (sources_of places.now told) (reverse stack.old.items)
+        gathered.now.entries.items next.0 next.1 (reverse stack.new.items)) }
 {
     'names: while let Some(name) = stack.pop() {
         if gathered.has(name.as_bytes()) {

@@ -117,6 +117,7 @@ fn run_into<F: Shelf, O: Sink, E: Sink>(
 {
     let mut state = State {
         device: Device::Empty,
+        loaded: None,
         columns: Vec::new(alloc),
         compared: None,
         lines: 0,

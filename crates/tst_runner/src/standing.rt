@@ -22,10 +22,12 @@ pub struct CompareFile {
     pub at: usize,
 }
 
-/// Where a script stands: its device, the columns of its output list, its compare file, and how many lines it put.
+/// Where a script stands: its device and the file that this was loaded from, the columns of its output list, its compare file, and how many
+/// lines it put.
 #[derive(Drop)]
 pub struct State {
     pub device: Device,
+    pub loaded: Option<Vec<u8>>,
     pub columns: Vec<Column>,
     pub compared: Option<CompareFile>,
     pub lines: u64,

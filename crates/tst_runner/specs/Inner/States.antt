@@ -25,7 +25,7 @@ use Rattle.tst_runner.specs.Setting.{Setting, folder, path_of}
 use Rattle.tst_runner.specs.Loading.{IsLoaded, IsNotLoaded, IsProgram, IsImage, IsNoImage}
 use Rattle.script_device.specs.Machines.{loaded_machine}
 use Rattle.script_device.specs.Devices.{Device, after_eval}
-use Rattle.script_device.specs.Devices.Device.{Chip, Machine}
+use Rattle.script_device.specs.Devices.Device.{Empty, Chip, Machine}
 use Rattle.tst_runner.specs.Lines.{IsNameless}
 use Rattle.tst_runner.specs.Standing.{Standing, Compared, Agrees, with_line}
 use Rattle.tst_runner.specs.Effects.{Does, Goes, GoThrough, PutsLine, Differs, Faults}
@@ -47,9 +47,16 @@ AreFiles (Some file) lines (Some compared) = IsFile file lines compared
 AreFiles None lines (Some compared) = ⊥
 AreFiles (Some file) lines None = ⊥
 
--- The code's state is this standing.
-pub record IsState (state : State) (s : Standing) : Type 0 where
+-- A chip that is driven is the one that the file gives. Of what else is driven nothing is said.
+abbrev pub IsFrom : Setting → List ℕ → Device → Type 0
+IsFrom setting file Empty = Unit {0}
+IsFrom setting file (Chip chip calls) = IsLoaded setting file chip
+IsFrom setting file (Machine machine) = Unit {0}
+
+-- The code's state is this standing, and its device is from the file that it names.
+pub record IsState (setting : Setting) (state : State) (s : Standing) : Type 0 where
   pub device : Stands state.device s.device
+  pub loaded : IfSome state.loaded (λ file. IsFrom setting file.items s.device)
   pub columns : AreColumns s.device s.items state.columns.items
   pub compared : AreFiles state.compared state.lines s.compared
   pub lines : state.lines ≡ s.lines
@@ -82,7 +89,7 @@ module _ (setting : Setting) (there : List ℕ → Bool) (unfailing : Type 0) (o
 
   -- an act is done
   abbrev pub IsDone : Standing → Act → State → Type 0
-  IsDone s act state = (t : Standing) × Goes setting s act t × IsState state t × Stays t
+  IsDone s act state = (t : Standing) × Goes setting s act t × IsState setting state t × Stays t
 
   -- an act puts a line that differs
   abbrev pub IsDifferent : Standing → Act → Difference → Type 0
@@ -113,7 +120,7 @@ module _ (setting : Setting) (there : List ℕ → Bool) (unfailing : Type 0) (o
 
   -- acts are done one after another
   abbrev pub PerformsAll : Standing → List Act → State → Result (Unit {0}) Stop → Type 0
-  PerformsAll s acts state (Ok _) = (t : Standing) × GoThrough setting s acts t × IsState state t × Stays t
+  PerformsAll s acts state (Ok _) = (t : Standing) × GoThrough setting s acts t × IsState setting state t × Stays t
   PerformsAll s acts state (Err stop) = StopsIn s acts stop
 
 -- The counts of faults of shelf, out and err: one of them rises where it stops the script.
@@ -142,18 +149,18 @@ FindsColumns path device items (Err stop) = StopsAtName path device items stop
 -- ---- what the parts of an act say
 
 -- The state is this standing, unless memory is wanting.
-abbrev pub Becomes : State → Standing → Result (Unit {0}) Stop → Type 0
-Becomes state t (Ok _) = IsState state t
-Becomes state t (Err (stops.Unloaded (loads.Refused r))) = ⊥
-Becomes state t (Err (stops.Unloaded loads.Failed)) = ⊥
-Becomes state t (Err (stops.Unloaded loads.Memory)) = Unit {0}
-Becomes state t (Err (stops.Differs d)) = ⊥
-Becomes state t (Err stops.Out) = ⊥
-Becomes state t (Err stops.Err) = ⊥
+abbrev pub Becomes : Setting → State → Standing → Result (Unit {0}) Stop → Type 0
+Becomes setting state t (Ok _) = IsState setting state t
+Becomes setting state t (Err (stops.Unloaded (loads.Refused r))) = ⊥
+Becomes setting state t (Err (stops.Unloaded loads.Failed)) = ⊥
+Becomes setting state t (Err (stops.Unloaded loads.Memory)) = Unit {0}
+Becomes setting state t (Err (stops.Differs d)) = ⊥
+Becomes setting state t (Err stops.Out) = ⊥
+Becomes setting state t (Err stops.Err) = ⊥
 
 -- An act that puts nothing is done, or stops the script; where the shelf failed this holds.
 abbrev pub Quietly : Setting → Type 0 → Standing → Act → State → Result (Unit {0}) Stop → Type 0
-Quietly setting missed s act state (Ok _) = (t : Standing) × Does setting s act t × IsState state t × (t.out ≡ s.out) × (t.err ≡ s.err)
+Quietly setting missed s act state (Ok _) = (t : Standing) × Does setting s act t × IsState setting state t × (t.out ≡ s.out) × (t.err ≡ s.err)
 Quietly setting missed s act state (Err (stops.Unloaded (loads.Refused r))) = Faults setting s act (line_of r)
 Quietly setting missed s act state (Err (stops.Unloaded loads.Failed)) = missed
 Quietly setting missed s act state (Err (stops.Unloaded loads.Memory)) = Unit {0}
@@ -174,12 +181,12 @@ pub record TellsDifference (r : Standing) (line : List ℕ) (d : Difference) : T
   pub number : d.line ≡ suc r.lines
 
 -- A line that was put counts, and agrees or differs.
-abbrev pub Compares : Standing → List ℕ → State → Result (Unit {0}) Stop → Type 0
-Compares r line state (Ok _) = Agrees r line × IsState state (with_line r line)
-Compares r line state (Err (stops.Unloaded e)) = ⊥
-Compares r line state (Err (stops.Differs d)) = TellsDifference r line d
-Compares r line state (Err stops.Out) = ⊥
-Compares r line state (Err stops.Err) = ⊥
+abbrev pub Compares : Setting → Standing → List ℕ → State → Result (Unit {0}) Stop → Type 0
+Compares setting r line state (Ok _) = Agrees r line × IsState setting state (with_line r line)
+Compares setting r line state (Err (stops.Unloaded e)) = ⊥
+Compares setting r line state (Err (stops.Differs d)) = TellsDifference r line d
+Compares setting r line state (Err stops.Out) = ⊥
+Compares setting r line state (Err stops.Err) = ⊥
 
 module _ (out out' err err' : Option (List ℕ)) (pending : List ℕ) where
   -- Of a line some went out, after all whole pieces before it.
@@ -190,14 +197,14 @@ module _ (out out' err err' : Option (List ℕ)) (pending : List ℕ) where
     pub on_err : Got err err' r.err
 
   -- A line was put and agrees or differs, or out failed, or no memory was there and nothing was put.
-  abbrev pub PutsOut : Standing → List ℕ → State → Result (Unit {0}) Stop → Type 0
-  PutsOut r line state (Ok _) = Compares r line state (Ok tt) × StandsThere out out' err err' pending (with_line r line)
-  PutsOut r line state (Err (stops.Unloaded (loads.Refused e))) = ⊥
-  PutsOut r line state (Err (stops.Unloaded loads.Failed)) = ⊥
-  PutsOut r line state (Err (stops.Unloaded loads.Memory)) = StandsThere out out' err err' pending r
-  PutsOut r line state (Err (stops.Differs d)) = TellsDifference r line d × StandsThere out out' err err' pending (with_line r line)
-  PutsOut r line state (Err stops.Out) = LineWent r line
-  PutsOut r line state (Err stops.Err) = ⊥
+  abbrev pub PutsOut : Setting → Standing → List ℕ → State → Result (Unit {0}) Stop → Type 0
+  PutsOut setting r line state (Ok _) = Compares setting r line state (Ok tt) × StandsThere out out' err err' pending (with_line r line)
+  PutsOut setting r line state (Err (stops.Unloaded (loads.Refused e))) = ⊥
+  PutsOut setting r line state (Err (stops.Unloaded loads.Failed)) = ⊥
+  PutsOut setting r line state (Err (stops.Unloaded loads.Memory)) = StandsThere out out' err err' pending r
+  PutsOut setting r line state (Err (stops.Differs d)) = TellsDifference r line d × StandsThere out out' err err' pending (with_line r line)
+  PutsOut setting r line state (Err stops.Out) = LineWent r line
+  PutsOut setting r line state (Err stops.Err) = ⊥
 
 -- An echo was put, or err failed.
 abbrev pub PutsEcho : Option (List ℕ) → Option (List ℕ) → List ℕ → Result (Unit {0}) Stop → Type 0

@@ -11,7 +11,7 @@ rest_whole : (text : List ℕ) (at : ℕ) → take (length text - at) (drop at t
 rest_whole text at = take_all (length text - at) (drop at text) (omega (arith, length-drop at text))
 
 pub returns-then-not-agrees_first : goal.returns-then-not-agrees_first
-returns-then-not-agrees_first c s h =
+returns-then-not-agrees_first c setting s h =
     let file = c.in-Some.file in
     let P : Option CompareFile → Type 0 = λ x. AreFiles x c.args.state.now.lines s.compared in
     let files = subst P (sym c.in-Some.ensures.value) h.compared in
@@ -23,7 +23,7 @@ returns-then-not-agrees_first c s h =
     record { compared = d.0; compares = d.1; differs = d.2; path = d.3; number = omega (arith, h.lines) }
 
 pub returns : goal.returns
-returns c s h =
+returns c setting s h =
     let file = c.in-Some.file in
     let k = c.past_line.result in
     let P : Option CompareFile → Type 0 = λ x. AreFiles x c.args.state.now.lines s.compared in
@@ -37,6 +37,7 @@ returns c s h =
       file-agrees s.compared file c.args.state.now.lines s.lines c.args.line.now files h.lines b,
       record {
         device = h.device;
+        loaded = h.loaded;
         columns = h.columns;
         compared = AreFiles-next s.compared file c.args.state.now.lines k files (subst W q c.past_line.ensures.within) (subst R q c.past_line.ensures.rest);
         lines = omega (arith, h.lines);

@@ -39,6 +39,7 @@ returns-clause-does g c s h =
       (text, l.0, l.1, refl),
       record {
         device = h.device;
+        loaded = h.loaded;
         columns = h.columns;
         compared = record {
           path = c.in_ok-path.ensures ∙ ap (λ file. path_in (folder_of c.args.script.path.now) (utf8_lossy file)) c.as_slice-2.ensures;

@@ -8,12 +8,12 @@ use Rattle.tst_runner.proofs.acts.put_values.Goals as goal
 
 pub values_line-requires : goal.values_line-requires
 values_line-requires g c =
-    let s = c.requires.0 in
-    let h = c.requires.1 in
+    let s = c.requires.1.0 in
+    let h = c.requires.1.1 in
     (s.device, h.device, (s.items, subst (AreColumns s.device s.items) (sym c.deref.ensures.value) h.columns))
 
 pub returns-clause-does : goal.returns-clause-does
 returns-clause-does g c setting there w e f s h stays =
     let are = subst (AreColumns s.device s.items) (sym c.deref.ensures.value) h.columns in
     Performs-line setting there ⊥ w (g.O.Sink.state (sink_of c.put_line.new.out)).written e f (pending c.put_line.new.out) s s (acts.Step steps.Output) c.in_ok-line.line.items c.put_line.new.state c.put_line.result
-    (refl, c.in_ok-line.ensures s.device s.items h.device are) refl refl refl (c.put_line.ensures.puts w e f s h stays)
+    (refl, c.in_ok-line.ensures s.device s.items h.device are) refl refl refl (c.put_line.ensures.puts setting w e f s h stays)
