@@ -150,6 +150,8 @@ impl GateComputer {
     pub fn put_nets<S: Sink>(&mut self, key: u16, out: &mut Pieces<'_, S>) -> Put
         requires { IsSome self.old.wiring.parts }
         ensures image { image_in self.new ≡ image_in self.old }
+        ensures net { self.new.sim.net ≡ self.old.sim.net }
+        ensures wiring { self.new.wiring ≡ self.old.wiring }
         ensures moves { self.new.moves ≡ self.old.moves }
         ensures stands { (turns : List Turn) → HasFollowed self.old turns
             → HasFollowed self.new turns }

@@ -52,6 +52,7 @@ pub fn wire_computer(
 ) -> Result<WiredComputer, AllocError>
     requires library { library.now.entries ≡ shipped_chips }
     requires elaborated { IsElaborated chips computer elab }
+    ensures net { IfOk result (λ wired. wired.net ≡ elab.net) }
     ensures wired { IfOk result (λ wired. IsWired wired.net wired.wiring) }
     ensures parts { IfOk result (λ wired. IsSome wired.wiring.parts) }
     ensures few { IfOk result (λ wired. length wired.net.nodes < 2 ^ 32 - 1) }
