@@ -74,4 +74,4 @@ done_by files there unfailing line text out out' err put.Failed prints puts othe
 
 pub done_counts : (shelf shelf' : ℕ) (out out' err : SinkState) (p : Put) → shelf' ≡ shelf → CountsPut out.faults out'.faults p → Counts shelf shelf' out out' err err (finish_result p)
 done_counts shelf shelf' out out' err put.Done same counts = (same, counts, refl)
-done_counts shelf shelf' out out' err put.Failed same counts = (inl same, counts.0, refl)
+done_counts shelf shelf' out out' err put.Failed same counts = (same, counts.0, refl)

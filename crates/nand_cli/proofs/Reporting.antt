@@ -145,7 +145,7 @@ counts_none B good refused errors.Memory shelf shelf' h e = e
 pub report_counts : (is_report : List ℕ → Type 0) (shelf shelf' : ℕ) (out out' err : SinkState) (r : Result (Unit {0}) Failure) → shelf' ≡ shelf
     → Reports is_report out out' r → CountsReport out out' r → Counts shelf shelf' out out' err err r
 report_counts is_report shelf shelf' out out' err (Ok u) e h count = (e, count, refl)
-report_counts is_report shelf shelf' out out' err (Err failure.Out) e h count = (inl e, count, refl)
+report_counts is_report shelf shelf' out out' err (Err failure.Out) e h count = (e, count, refl)
 report_counts is_report shelf shelf' out out' err (Err (failure.Differs d)) e h count = absurd h
 report_counts is_report shelf shelf' out out' err (Err failure.Echo) e h count = absurd h
 report_counts is_report shelf shelf' out out' err (Err (failure.Unloaded (errors.Refused why))) e h count = (e, count, refl)

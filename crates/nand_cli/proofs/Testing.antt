@@ -11,7 +11,7 @@ use Rattle.tst_runner.specs.declared.script.Verdict.TheVariants as verdicts
 use Rattle.tst_runner.specs.declared.script.ScriptError.{ScriptError}
 use Rattle.tst_runner.specs.declared.script.ScriptError.TheVariants as errors
 use Rattle.outer_world.specs.State.{SinkState, shelf_state}
-use Rattle.nand_cli.specs.Inner.Parts.{Counts, Does, end_result}
+use Rattle.nand_cli.specs.Inner.Parts.{CountsTest, Does, end_result}
 use Rattle.nand_cli.specs.Commands.Test.{memories_of}
 
 by_option : (files : Option Files) (there : List ℕ → Bool) (unfailing : Type 0) (path : List ℕ) (gates simplify : Bool) (out out' err err' : SinkState) (result : Result Verdict ScriptError)
@@ -31,7 +31,7 @@ pub does : (files : Option Files) (there : List ℕ → Bool) (unfailing : Type 
 does files there unfailing path gates simplify out out' err err' result memories said h =
     by_option files there unfailing path gates simplify out out' err err' result (subst (λ (m : Memories). Runs (setting_of path files m) there unfailing out out' err err' result) said h)
 
-pub counts : (a a' : ℕ) (b b' c c' : SinkState) (result : Result Verdict ScriptError) → CountsScript a a' b b' c c' result → Counts a a' b b' c c' (end_result result)
+pub counts : (a a' : ℕ) (b b' c c' : SinkState) (result : Result Verdict ScriptError) → CountsScript a a' b b' c c' result → CountsTest a a' b b' c c' (end_result result)
 counts a a' b b' c c' (Ok verdicts.Same) h = h
 counts a a' b b' c c' (Ok verdicts.NoCompare) h = h
 counts a a' b b' c c' (Ok (verdicts.Differs d)) h = h

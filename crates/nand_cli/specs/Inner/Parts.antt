@@ -1,6 +1,6 @@
 -- What the parts of a call say; the call's own contract needs none of it.
 use Rattle.std.specs.Prelude.{◌≡◌, ◌⊎◌, ℕ, Bool, List, Option, Result, Ok, Err, IfSome}
-use Rattle.command_line.specs.Line.{Line}
+use Rattle.command_line.specs.Line.{Line, test}
 use Rattle.command_line.specs.declared.reader.LineError.{LineError}
 use Rattle.command_line.specs.declared.reader.LineError.TheVariants as no_line
 use Rattle.outer_world.specs.Faults.{Rose}
@@ -48,12 +48,22 @@ Does shelf line out out' err err' result = (o : List ℕ) × (e : List ℕ) × L
 abbrev pub MissesLine : ShelfState → Line → Type 0
 MissesLine shelf line = shelf.unfailing → IfSome shelf.files (λ told. Lacks shelf.there told line)
 
--- What doing a line says of the counts of faults of shelf, out and err.
+-- What doing a line says of the counts of faults of shelf, out and err. All is read before anything is put.
 abbrev pub Counts : ℕ → ℕ → SinkState → SinkState → SinkState → SinkState → Result (Unit {0}) Failure → Type 0
 Counts shelf shelf' out out' err err' (Err (failure.Unloaded errors.Failed)) = Rose shelf shelf' × (out'.faults ≡ out.faults) × (err'.faults ≡ err.faults)
-Counts shelf shelf' out out' err err' (Err failure.Out) = ((shelf' ≡ shelf) ⊎ Rose shelf shelf') × Rose out.faults out'.faults × (err'.faults ≡ err.faults)
+Counts shelf shelf' out out' err err' (Err failure.Out) = (shelf' ≡ shelf) × Rose out.faults out'.faults × (err'.faults ≡ err.faults)
 Counts shelf shelf' out out' err err' (Err failure.Echo) = (shelf' ≡ shelf) × (out'.faults ≡ out.faults) × Rose err.faults err'.faults
 Counts shelf shelf' out out' err err' _ = (shelf' ≡ shelf) × (out'.faults ≡ out.faults) × (err'.faults ≡ err.faults)
+
+-- The same of `test`, which puts as it reads: where out fails, a read may have failed before.
+abbrev pub CountsTest : ℕ → ℕ → SinkState → SinkState → SinkState → SinkState → Result (Unit {0}) Failure → Type 0
+CountsTest shelf shelf' out out' err err' (Err failure.Out) = ((shelf' ≡ shelf) ⊎ Rose shelf shelf') × Rose out.faults out'.faults × (err'.faults ≡ err.faults)
+CountsTest shelf shelf' out out' err err' result = Counts shelf shelf' out out' err err' result
+
+-- The same of any line.
+abbrev pub CountsLine : Line → ℕ → ℕ → SinkState → SinkState → SinkState → SinkState → Result (Unit {0}) Failure → Type 0
+CountsLine (test path gates simplify) shelf shelf' out out' err err' result = CountsTest shelf shelf' out out' err err' result
+CountsLine line shelf shelf' out out' err err' result = Counts shelf shelf' out out' err err' result
 
 -- how a line ends with the last that it puts on out
 abbrev pub finish_result : Put → Result (Unit {0}) Failure

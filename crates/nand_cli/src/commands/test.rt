@@ -2,7 +2,7 @@
 ghost use Rattle.std.specs.Prelude.{◌≡◌};
 ghost use Rattle.outer_world.specs.State.{Keeps};
 ghost use Rattle.command_line.specs.Line.{test};
-ghost use Rattle.nand_cli.specs.Inner.Parts.{Counts, Does, end_result};
+ghost use Rattle.nand_cli.specs.Inner.Parts.{CountsTest, Does, end_result};
 ghost use Rattle.nand_cli.specs.Commands.Test.{memories_of};
 
 use crate::failure::Failure;
@@ -47,7 +47,7 @@ pub fn answer_test<F: Shelf, O: Sink, E: Sink>(
 ) -> Result<(), Failure>
     ensures does { Does (F.state shelf.old) (test path.now gates simplify) (O.state out.old)
         (O.state out.new) (E.state err.old) (E.state err.new) result }
-    ensures counts { Counts (F.faults shelf.old) (F.faults shelf.new) (O.state out.old)
+    ensures counts { CountsTest (F.faults shelf.old) (F.faults shelf.new) (O.state out.old)
         (O.state out.new) (E.state err.old) (E.state err.new) result }
     ensures keeps { Keeps (F.state shelf.old) (F.state shelf.new) }
 {
