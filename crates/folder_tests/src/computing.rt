@@ -61,6 +61,24 @@ begins
 |level vm
 ends
 |end full 1795
+
+# two values beside these frames are as many words as there may be, and the next frame is too much
+file prog/Main.jack
+:class Main { static int n; function void main() { let n = n + 1; do Main.main(); return; } }
+$ run prog --level vm --cycles 1000000
+holds
+|point Main.main 2
+ends
+|end full 1795
+
+# three are one too many
+file prog/Main.jack
+:class Main { static int n; function void main() { let n = n + (1 + 1); do Main.main(); return; } }
+$ run prog --level vm --cycles 1000000
+holds
+|point Main.main 1
+ends
+|end full 1793
 ";
 
 // In 100,000 cycles each program ends, and at the gates each of them takes long: examples/levels makes 300,000 there too.

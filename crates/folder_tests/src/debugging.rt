@@ -44,6 +44,17 @@ refused
 err
 |prog:0:0: NoPoint Main.f:9
 
+# the greatest number of a statement, and one more
+$ debug prog --break Main.f:1000000000 --cycles 5
+refused
+err
+|prog:0:0: NoPoint Main.f:1000000000
+
+$ debug prog --break Main.f:1000000001 --cycles 5
+usage
+err
+|usage: nand COMMAND ARGUMENTS
+
 $ debug prog --break Main.f:1 --cycles 5 --keys none.txt
 read fault
 err

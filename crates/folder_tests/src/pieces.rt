@@ -1,5 +1,5 @@
 //! The pieces in which lines put out: one whose second put takes ten bytes alone has put the first and these.
-//! `chip` and `soak` put less than a piece.
+//! `chip` and `soak` put less than a piece: their one put fails.
 use crate::checks::tried;
 use std::test::Fail;
 
@@ -88,6 +88,24 @@ file p/Main.jack
 :class Main { function void main() { } }
 $ run p --level gates --cycles 0 --show nets
 cut 4106
+
+no file
+$ chip Not
+$ soak 1 0
+fails out 1 0
+write fault
+
+$ chip Not
+fails out 1 4
+write fault
+out
+:CHIP
+
+$ soak 1 0
+fails out 1 6
+write fault
+out
+:soak 1
 ";
 
 #[test]

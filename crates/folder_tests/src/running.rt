@@ -10,6 +10,7 @@ const REPORTS: &str = "
 file prog/Main.jack
 :class Main { function void main() { var Array s; let s = 100; let s[0] = 1; return; } }
 $ run prog --level jack --cycles 10000
+$ run prog --level jack --cycles 1000000000
 out
 |level jack
 |moves 1740

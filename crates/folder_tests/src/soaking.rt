@@ -17,6 +17,15 @@ out
 |steps 0
 |sum 0
 
+# the greatest seed, and one more
+$ soak 1000000 0
+out
+|soak 1000000 0
+|agree 0
+|steps 0
+|sum 0
+
+$ soak 1000001 0
 $ soak 1001 1001
 $ soak 1
 $ soak 1 x

@@ -1,32 +1,14 @@
 //! What is told of a line.
+
+ghost use Rattle.std.specs.Prelude.{◌≡◌, IfOk, IfNone, map};
+ghost use Rattle.line_trials.specs.Statuses.{status_of};
+
 use crate::numbers::{number_of, parts};
 use crate::outside::Outcome;
 use crate::pieces::text_of;
-use crate::tables::{below_of, says};
+use crate::statuses::status_of;
+use crate::tables::below_of;
 use std::alloc::{AllocError, Global};
-
-// The words for the exit statuses, from 0 on.
-const STATUSES: [&str; 7] = [
-    "done",
-    "refused",
-    "usage",
-    "read fault",
-    "write fault",
-    "no memory",
-    "differs",
-];
-
-// The status that lines tell, which is that of a line that is done where they tell none.
-fn status_of(lines: &[&[u8]]) -> u8 {
-    let mut code = 0u8;
-    for word in &STATUSES {
-        if says(lines, word.as_bytes()) {
-            return code;
-        }
-        code = code.saturating_add(1);
-    }
-    0
-}
 
 // What a text is told to be, by the text below.
 #[derive(Clone, Copy)]
@@ -234,16 +216,19 @@ fn is_err(alloc: Global, lines: &[&[u8]], err: &[u8]) -> Result<bool, AllocError
     Ok(text.as_slice() == err)
 }
 
-/// What is not as the lines tell, if anything is not.
+/// What is not as the lines tell, if anything is not. Where nothing is told, the status is theirs.
 pub(crate) fn difference(
     alloc: Global,
     lines: &[&[u8]],
     outcome: &Outcome,
-) -> Result<Option<&'static str>, AllocError> {
+) -> Result<Option<&'static str>, AllocError>
+    ensures { IfOk result (λ d. IfNone d
+        (outcome.now.status ≡ status_of (map (λ l. l.now) lines.now))) }
+{
     if !is_err(alloc, lines, outcome.err.bytes())? {
         return Ok(Some("err"));
     }
-    if outcome.status != status_of(lines) {
+    if usize::from(outcome.status) != status_of(lines) {
         return Ok(Some("status"));
     }
     if !is_out(alloc, lines, outcome.out.bytes())? {

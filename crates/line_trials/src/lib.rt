@@ -7,6 +7,7 @@ mod checking;
 mod numbers;
 mod outside;
 mod pieces;
+mod statuses;
 mod tables;
 mod trying;
 

@@ -1,8 +1,8 @@
 //! Files and sinks in memory, and what a program does over them.
 use crate::numbers::{number_of, parts, two_numbers, two_parts};
 use crate::pieces::{put_numbered, text_of};
-use crate::tables::behind;
-use outer_world::{MemoryShelf, MemorySink, Name};
+use crate::tables::{behind, misplaced};
+use outer_world::{MemoryShelf, MemorySink, Name, Sink};
 use std::alloc::{AllocError, Global};
 
 /// A program that is tried.
@@ -71,7 +71,7 @@ fn sink_of(alloc: Global, room: u32, fails: Option<(u64, u32)>) -> Result<Memory
 }
 
 fn sinks_of(alloc: Global, fails: Fails) -> Result<(MemorySink, MemorySink), AllocError> {
-    let out = sink_of(alloc, 200_000, fails.out)?;
+    let out = sink_of(alloc, 300_000, fails.out)?;
     let err = sink_of(alloc, 20_000, fails.err)?;
     Ok((out, err))
 }
@@ -180,15 +180,27 @@ pub(crate) fn called<P: Program>(
     Ok(Outcome { status, out, err })
 }
 
-/// The files that these lines speak of, and one more that a line over them makes, if it does.
+/// Whether two of these files have one path.
+pub(crate) fn stands_twice(files: &[(Name, Vec<u8>)]) -> bool {
+    for (at, file) in files.iter().enumerate() {
+        for other in &files[..at] {
+            if other.0 == file.0 {
+                return true;
+            }
+        }
+    }
+    false
+}
+
+/// The files that these lines speak of, and one more that a line over them makes; none where that line isn't done.
 pub(crate) fn made<P: Program>(
     program: &P,
     alloc: Global,
     files: &[&[u8]],
-) -> Result<Vec<(Name, Vec<u8>)>, AllocError> {
+) -> Result<Option<Vec<(Name, Vec<u8>)>>, AllocError> {
     let mut all = files_of(alloc, files)?;
     let Some((path, line)) = behind(files, b"made ").and_then(two_parts) else {
-        return Ok(all);
+        return Ok(Some(all));
     };
     let words = words_of(alloc, line, b"")?;
     let outcome = called(
@@ -198,10 +210,11 @@ pub(crate) fn made<P: Program>(
         &words,
         Fails::never(),
     )?;
-    if outcome.status == 0 && outcome.err.bytes().is_empty() {
-        add_file(alloc, &mut all, path, outcome.out.bytes().to_vec(alloc)?)?;
+    if outcome.status != 0 || !outcome.err.bytes().is_empty() {
+        return Ok(None);
     }
-    Ok(all)
+    add_file(alloc, &mut all, path, outcome.out.bytes().to_vec(alloc)?)?;
+    Ok(Some(all))
 }
 
 /// What a line does over these files.
@@ -216,7 +229,18 @@ pub fn outcome_over<P: Program>(
     called(program, alloc, files, &words, fails)
 }
 
-/// What a line does over the files of a table.
+// What is said of files that are no files of a table: this status, which no program has, and the line on err.
+fn no_outcome(alloc: Global, line: &[u8]) -> Result<Outcome, AllocError> {
+    let (out, mut err) = sinks_of(alloc, Fails::never())?;
+    let _ = err.put(line);
+    Ok(Outcome {
+        status: 255,
+        out,
+        err,
+    })
+}
+
+/// What a line does over the files of a table. Where a line there says nothing, the status is 255.
 pub fn outcome_of<P: Program>(
     program: &P,
     alloc: Global,
@@ -225,5 +249,8 @@ pub fn outcome_of<P: Program>(
     fails: Fails,
 ) -> Result<Outcome, AllocError> {
     let lines = parts(alloc, files.as_bytes(), b'\n')?;
+    if let Some(line) = misplaced(&lines) {
+        return no_outcome(alloc, line);
+    }
     outcome_over(program, alloc, files_of(alloc, &lines)?, line, fails)
 }

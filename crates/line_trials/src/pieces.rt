@@ -35,6 +35,13 @@ pub(crate) fn piece_of(line: &[u8]) -> Option<Piece<'_>> {
     })
 }
 
+impl Piece<'_> {
+    /// Whether anything but line ends stands there.
+    pub(crate) fn says_something(&self) -> bool {
+        self.times > 0 && !self.text.is_empty()
+    }
+}
+
 /// A text with a number in the place of each `%`, the next one in that of each `#`, and a line end in that of each `~`.
 pub(crate) fn put_numbered(
     text: &mut Vec<u8>,

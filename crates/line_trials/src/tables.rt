@@ -1,6 +1,7 @@
 //! The lines of a table, and its paragraphs.
 use crate::numbers::{number_of, two_numbers, two_parts};
 use crate::pieces::piece_of;
+use crate::statuses::status_by;
 
 /// The lines from the first on up to an empty one.
 pub(crate) fn paragraph<'a>(lines: &'a [&'a [u8]]) -> &'a [&'a [u8]] {
@@ -22,36 +23,19 @@ pub(crate) fn behind<'a>(lines: &[&'a [u8]], word: &[u8]) -> Option<&'a [u8]> {
     None
 }
 
-/// Whether one of the lines is this word.
-pub(crate) fn says(lines: &[&[u8]], word: &[u8]) -> bool {
-    for line in lines {
-        if *line == word {
-            return true;
-        }
-    }
-    false
-}
-
 // Lines with a text below them. Where a word ends with a space, a value stands behind it.
 const HEADS: [&str; 13] = [
     "file ", "files ", "out", "err", "begins", "ends", "fourth", "holds", "lacks", "once", "never",
     "those ", "screen",
 ];
 
-// Lines without one.
-const OTHERS: [&str; 18] = [
+// Lines without one, beside the words for statuses.
+const OTHERS: [&str; 11] = [
     "",
     "$ ",
     "# ",
     "no file",
     "made ",
-    "done",
-    "refused",
-    "usage",
-    "read fault",
-    "write fault",
-    "no memory",
-    "differs",
     "size ",
     "lines ",
     "cut ",
@@ -68,6 +52,11 @@ fn is_one_of(line: &[u8], words: &[&str]) -> bool {
         }
     }
     false
+}
+
+// Whether a line says something without a text below it.
+fn is_other(line: &[u8]) -> bool {
+    status_by(line).is_some() || is_one_of(line, &OTHERS)
 }
 
 // What is behind the first of these words that a line begins with.
@@ -110,20 +99,61 @@ const WANTING: [&str; 7] = [
     "begins", "ends", "fourth", "holds", "lacks", "once", "never",
 ];
 
-/// The first line that says nothing without a text below it, and has none.
-pub(crate) fn without_text<'a>(lines: &[&'a [u8]]) -> Option<&'a [u8]> {
-    let mut wanting = None;
+// Whether the text of the first lines has anything but line ends.
+fn has_text(lines: &[&[u8]]) -> bool {
     for line in lines {
-        if piece_of(line).is_none() && wanting.is_some() {
-            return wanting;
+        match piece_of(line) {
+            None => return false,
+            Some(piece) => {
+                if piece.says_something() {
+                    return true;
+                }
+            }
         }
-        wanting = if is_one_of(line, &WANTING) {
-            Some(*line)
-        } else {
-            None
-        };
     }
-    wanting
+    false
+}
+
+/// The first line that says nothing without a text below it, and has none but line ends.
+pub(crate) fn without_text<'a>(lines: &[&'a [u8]]) -> Option<&'a [u8]> {
+    for (at, line) in lines.iter().enumerate() {
+        if is_one_of(line, &WANTING) && !has_text(&lines[at..][1..]) {
+            return Some(*line);
+        }
+    }
+    None
+}
+
+// Words that stand in a paragraph once at most.
+const SINGLE: [&str; 7] = [
+    "err",
+    "no file",
+    "made ",
+    "cut ",
+    "fails shelf ",
+    "fails out ",
+    "fails err ",
+];
+
+// How many lines are this word, or begin with it.
+fn times_of(lines: &[&[u8]], word: &str) -> u32 {
+    let mut times = 0u32;
+    for line in lines {
+        if is_one_of(line, &[word]) {
+            times = times.saturating_add(1);
+        }
+    }
+    times
+}
+
+/// Whether a word stands twice that counts once, or files stand beside `no file`.
+pub(crate) fn is_doubled(lines: &[&[u8]]) -> bool {
+    for word in &SINGLE {
+        if times_of(lines, word) > 1 {
+            return true;
+        }
+    }
+    times_of(lines, "no file") > 0 && behind(lines, b"file").is_some()
 }
 
 /// The first line that says nothing, or has a text at a place where none is wanted.
@@ -136,7 +166,7 @@ pub(crate) fn misplaced<'a>(lines: &[&'a [u8]]) -> Option<&'a [u8]> {
             }
         } else {
             open = is_one_of(line, &HEADS);
-            if !has_value(line) || !open && !is_one_of(line, &OTHERS) {
+            if !has_value(line) || !open && !is_other(line) {
                 return Some(*line);
             }
         }

@@ -1,11 +1,14 @@
 //! Tables, tried.
 use crate::checking::difference;
 use crate::numbers::{number_of, parts};
-use crate::outside::{Fails, Outcome, Program, called, fails_of, made, words_of};
-use crate::tables::{behind, misplaced, paragraph, without_text};
+use crate::outside::{Fails, Outcome, Program, called, fails_of, made, stands_twice, words_of};
+use crate::statuses::{status_of, statuses_told};
+use crate::tables::{behind, is_doubled, misplaced, paragraph, without_text};
 use std::alloc::{AllocError, Global};
 
-// The exit status of a write that failed.
+// The exit statuses of a read and of a write that failed.
+const READ_FAULT: u8 = 3;
+
 const WRITE_FAULT: u8 = 4;
 
 // A paragraph, and the one that has its files: it or one before.
@@ -46,7 +49,9 @@ fn is_cut<P: Program>(
     let Some(size) = behind(trial.lines, b"cut ").and_then(number_of) else {
         return Ok(true);
     };
-    let files = made(program, alloc, trial.files)?;
+    let Some(files) = made(program, alloc, trial.files)? else {
+        return Ok(false);
+    };
     let fails = Fails {
         out: Some((2, 10)),
         ..Fails::never()
@@ -69,7 +74,12 @@ fn try_line<P: Program>(
     told: &mut String,
 ) -> Result<(), AllocError> {
     let words = words_of(alloc, line, further)?;
-    let files = made(program, alloc, trial.files)?;
+    let Some(files) = made(program, alloc, trial.files)? else {
+        return told.push_str("nothing is made\n");
+    };
+    if stands_twice(&files) {
+        told.push_str("a file stands twice\n")?;
+    }
     let outcome = called(program, alloc, files, &words, fails_of(trial.lines))?;
     if let Some(what) = difference(alloc, trial.lines, &outcome)? {
         tell(told, alloc, line, what, &outcome)?;
@@ -102,12 +112,36 @@ fn has_files(lines: &[&[u8]]) -> bool {
         || behind(lines, b"no file").is_some()
 }
 
-// A paragraph tries a line, or it is empty.
-fn tell_paragraph(told: &mut String, lines: &[&[u8]]) -> Result<(), AllocError> {
-    if lines.is_empty() || behind(lines, b"$ ").is_some() {
-        return Ok(());
+// Whether a call is to fail, and the status told is none that comes of it.
+fn fails_in_vain(lines: &[&[u8]]) -> bool {
+    let puts = behind(lines, b"fails out ").is_some() || behind(lines, b"fails err ").is_some();
+    let status = status_of(lines);
+    behind(lines, b"fails shelf ").is_some() && status != usize::from(READ_FAULT)
+        || puts && status != usize::from(WRITE_FAULT)
+}
+
+// What is wrong with a paragraph, if anything is. It tries a line, or is empty.
+fn fault_of(lines: &[&[u8]]) -> Option<&'static str> {
+    if !lines.is_empty() && behind(lines, b"$ ").is_none() {
+        return Some("nothing is tried in a paragraph\n");
     }
-    told.push_str("nothing is tried in a paragraph\n")
+    if statuses_told(lines) > 1 {
+        return Some("two statuses in a paragraph\n");
+    }
+    if is_doubled(lines) {
+        return Some("a word stands twice in a paragraph\n");
+    }
+    if fails_in_vain(lines) {
+        return Some("a call fails, and no fault is told\n");
+    }
+    None
+}
+
+fn tell_paragraph(told: &mut String, lines: &[&[u8]]) -> Result<(), AllocError> {
+    match fault_of(lines) {
+        None => Ok(()),
+        Some(fault) => told.push_str(fault),
+    }
 }
 
 fn try_paragraphs<'a, P: Program>(

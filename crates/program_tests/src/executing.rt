@@ -76,6 +76,11 @@ $ exec Empty.asm --cycles 3 --from 0 --to 0
 out
 |0 0
 
+# the last address
+$ exec Empty.asm --cycles 3 --from 32767 --to 32767
+out
+|32767 0
+
 file Add.asm
 |@2
 |D=A
@@ -316,6 +321,7 @@ out
 # other words, and options out of place, are no line
 $ run prog
 $ exec Add.asm --cycles 1000000001 --from 0 --to 1
+$ run prog --level jack --cycles 1000000001
 $ exec Add.asm --cycles 6 --from 0 --to 32768
 $ run prog --level VM --cycles 1
 $ 
@@ -371,68 +377,8 @@ fails err 1 5
 write fault
 err
 :x.asm
-";
 
-// limits of a text at their number and past it, and the pieces in which out is put
-const LONG: &str = "
-# the last word of the code, and words past it
-file Long.asm
-32767|@7
-|M=A
-$ exec Long.asm --cycles 32768 --from 0 --to 7
-out
-|0 0
-|1 0
-|2 0
-|3 0
-|4 0
-|5 0
-|6 0
-|7 7
-
-file Long.asm
-32767|@7
-|M=A
-:@7
-$ asm Long.asm
-$ exec Long.asm --cycles 1 --from 0 --to 0
-refused
-err
-|Long.asm:0:0: TooLarge 32769
-
-# the variables have the words from 16 up to the screen, at 16384
-file a.asm
-16369#|@a%
-$ asm a.asm
-$ exec a.asm --cycles 1 --from 0 --to 0
-refused
-err
-|a.asm:0:0: TooManyVariables 16369
-
-file a.asm
-16368#|@a%
-|D=A
-|@0
-:M=D
-$ exec a.asm --cycles 16371 --from 0 --to 0
-out
-|0 16383
-
-# the last byte of a file, and one past it
-file Long.asm
-1048576: 
-$ exec Long.asm --cycles 1 --from 0 --to 0
-out
-|0 0
-
-file Long.asm
-1048577: 
-$ asm Long.asm
-$ exec Long.asm --cycles 1 --from 0 --to 0
-refused
-err
-|Long.asm:0:0: Range 1048577
-
+# out is put in pieces
 file Add.asm
 |@2
 |D=A
@@ -447,11 +393,6 @@ cut 4106
 #[test]
 fn lines_of_assembly(rt: HostRuntime) -> Result<(), Fail> {
     tried(&rt, rt.alloc(), ASSEMBLY)
-}
-
-#[test]
-fn long_texts_of_assembly(rt: HostRuntime) -> Result<(), Fail> {
-    tried(&rt, rt.alloc(), LONG)
 }
 
 // What no words at all do.

@@ -63,6 +63,17 @@ file t/Read.tst
 :echo \"first\"; load t.asm;
 file t/Deep.tst
 :echo \"first\"; load C40.hdl;
+file t/Two.tst
+:load And2.hdl, load And.hdl, output-list a;
+# scripts that load programs
+file r/Asm.tst
+:load Add.asm, output-list A;
+file r/Rom.tst
+:load Rom.hdl, ROM32K load Add.asm, output-list out;
+file r/Rom.hdl
+:CHIP Rom { IN a[15]; OUT out[16]; PARTS: ROM32K(address=a, out=out); }
+file r/Add.asm
+|@2
 # chips, the last of which has more parts than memory can hold
 file t/C0.hdl
 :CHIP C0 { IN in; OUT out; PARTS:  }
@@ -99,6 +110,7 @@ fn failing_err(put: u64, taken: u32) -> Fails {
 const CALLS: &[(&str, u64, Status)] = &[
     ("asm", 0, Status::Usage),
     ("chip Not", 0, Status::Done),
+    ("soak 1 0", 0, Status::Done),
     ("asm Add.asm", 1, Status::Done),
     ("asm bad.asm", 1, Status::Refused),
     ("exec Add.asm --cycles 6 --from 0 --to 1", 1, Status::Done),
@@ -107,6 +119,7 @@ const CALLS: &[(&str, u64, Status)] = &[
     ("show t/And.hdl", 1, Status::Done),
     // the folder, and each text
     ("vm v", 2, Status::Done),
+    ("vm v --bare", 2, Status::Done),
     ("compile three", 4, Status::Done),
     ("build three", 4, Status::Done),
     ("map three", 4, Status::Done),
@@ -124,6 +137,16 @@ const CALLS: &[(&str, u64, Status)] = &[
         5,
         Status::Done,
     ),
+    (
+        "debug three --break Main.main:1 --cycles 0 --keys k.txt",
+        5,
+        Status::Done,
+    ),
+    (
+        "debug three --break Main.main:9 --cycles 0 --keys k.txt",
+        4,
+        Status::Refused,
+    ),
     // a file with another ending is not read, nor what stands after a text that is refused
     ("build one", 2, Status::Done),
     ("build bad", 2, Status::Refused),
@@ -134,6 +157,11 @@ const CALLS: &[(&str, u64, Status)] = &[
     ),
     // the script, the folder, two chips, and the compare file
     ("test t/And.tst", 5, Status::Done),
+    // the folder again, with the chip of the second load
+    ("test t/Two.tst", 6, Status::Done),
+    // the script and the program; and between them the folder and a chip
+    ("test r/Asm.tst", 2, Status::Done),
+    ("test r/Rom.tst", 4, Status::Done),
 ];
 
 fn calls_table() -> &'static [(&'static str, u64, Status)] {

@@ -10,6 +10,8 @@ mod failing;
 #[cfg(test)]
 mod fronts;
 #[cfg(test)]
+mod letters;
+#[cfg(test)]
 mod limits;
 #[cfg(test)]
 mod nand;

@@ -356,12 +356,13 @@ out
 |add
 :n
 
+# a comment as long as a file may be, and a longer one
 file a.vm
-1048576: 
+1048576:/
 $ show a.vm
 
 file a.vm
-1048577: 
+1048577:/
 $ show a.vm
 refused
 err

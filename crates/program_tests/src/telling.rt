@@ -13,6 +13,7 @@ const WRONG: &[&str] = &[
     "",
     "refused\nout\n|0000000000000010",
     "refussed\nout\n|0000000000000010",
+    "done\nrefused\nout\n|0000000000000010",
     "out\n:0000000000000010",
     "out\n|0000000000000011",
     "out\n|0000000000000010\nerr\n|x",
@@ -36,6 +37,19 @@ const WRONG: &[&str] = &[
     "fails shelf x\nout\n|0000000000000010",
     "fails out 1 3\nout\n|0000000000000010",
     "fails err x\nout\n|0000000000000010",
+    // calls that never come, so that nothing fails
+    "fails shelf 2\nout\n|0000000000000010",
+    "fails out 2 0\nout\n|0000000000000010",
+    // texts of line ends alone, which say nothing
+    "begins\n:",
+    "ends\n0|1",
+    "holds\n|",
+    // words that count once, files that stand there, and what is not made
+    "err\n:\nerr\n|x\nout\n|0000000000000010",
+    "no file\nout\n|0000000000000010",
+    "file a.asm\n|@3\nout\n|0000000000000010",
+    "made a.asm asm a.asm\nout\n|0000000000000010",
+    "made b.asm asm c.asm\nout\n|0000000000000010",
     "out\n|0000000000000010\n\nout\n|x",
 ];
 

@@ -57,6 +57,52 @@ out
 ||  -5 |   -5 |
 ||   9 |    9 |
 
+# a chip that is loaded again is at its start: time, pins, words and what stands on its outputs; what a tick fixed is forgotten
+file t/a.tst
+|load W.hdl, output-list time%S1.4.1 in%D1.2.1 RAM8[2]%D1.3.1 out%D1.3.1;
+|set in 7, set load 1, set address 2, ticktock, set in 9, tick, output;
+|load W.hdl, output-list time%S1.4.1 in%D1.2.1 RAM8[2]%D1.3.1 out%D1.3.1;
+|output; tock, set address 2, eval, output; set in 5, set load 1, ticktock, output;
+file t/W.hdl
+:CHIP W { IN in[16], load, address[3]; OUT out[16]; PARTS: RAM8(in=in, load=load, address=address, out=out); }
+$ test t/a.tst
+out
+|| time | in |RAM8[| out |
+|| 1+   |  9 |   7 |   7 |
+|| time | in |RAM8[| out |
+|| 0    |  0 |   0 |   0 |
+|| 0    |  0 |   0 |   0 |
+|| 1    |  5 |   5 |   5 |
+
+# the states of flip-flops too, and with another chip between
+file t/a.tst
+|load W.hdl, output-list DFF[] out; eval, output; set in 1, ticktock, output;
+|load W.hdl, output-list DFF[] out; output; set in 1, ticktock, output;
+|load Or.hdl, output-list a out; set a 1, eval, output;
+|load W.hdl, output-list DFF[] out; output;
+file t/W.hdl
+:CHIP W { IN in; OUT out; PARTS: DFF(in=in, out=m); Not(in=m, out=out); }
+$ test t/a.tst
+out
+||DFF|out|
+|| 0 | 1 |
+|| 1 | 0 |
+||DFF|out|
+|| 0 | 1 |
+|| 1 | 0 |
+|| a |out|
+|| 1 | 1 |
+||DFF|out|
+|| 0 | 1 |
+
+# a chip that is refused after one that is loaded again
+file t/a.tst
+:load And.hdl, load And.hdl, load Nor.hdl;
+$ test t/a.tst
+refused
+err
+|t/a.tst:0:0: UnknownChip Nor
+
 # few inputs of a part are joined
 file t/a.tst
 :load W.hdl, output-list in out; eval, output; set in 1, eval, output;
