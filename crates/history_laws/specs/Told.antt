@@ -24,7 +24,8 @@ EndIsTold outside inputs n path outs block ends.Keyboard = (c : ℕ) → c < n �
 EndIsTold outside inputs n path outs block ends.Rom = (b : ℕ) → block ≡ Some b → (a : ℕ) → a < 32768 → (inputs.loaded b a ≡ outside.rom path a) × (outside.rom path a < 65536)
 EndIsTold outside inputs n path outs block (ends.Block bits) = (b : ℕ) → block ≡ Some b → (a : ℕ) → a < 2 ^ bits → (inputs.loaded b a ≡ outside.words path a) × (outside.words path a < 65536)
 
--- Each end among the parts is told that, where the directory lists them. So is a chip that is an end itself, at its output pin; it has the only block.
+-- Each end among the parts is told that, where the directory lists them. So is a chip that is an end itself, at its
+-- output pin; it has the only block.
 pub record IsTold (outside : Environment) (inputs : Inputs) (n : ℕ) (chips : Chips) (top : Entry) (tree : List PartIn) (e : Elab) : Type 0 where
   pub parts : (k : ℕ) (part : PartIn) (listed : PartAt) (kind : End) → slice_get tree k ≡ Some part
       → slice_get e.parts k ≡ Some listed → end_of chips.memories part.chip ≡ Some kind

@@ -1,5 +1,5 @@
--- The headline for the Computer whose RAM and Screen are made of gates: its ROM is a table, and its keyboard holds keys. (The book, chapters 1 to 5 and 7
--- to 12.)
+-- The headline for the Computer whose RAM and Screen are made of gates: its ROM is a table, and its keyboard holds
+-- keys. (The book, chapters 1 to 5 and 7 to 12.)
 use Rattle.std.specs.Prelude.{◌≡◌, ℕ, ◌+◌, ◌<◌, false, List, []}
 use Rattle.std.specs.List.{All}
 use Rattle.simulation.specs.System.{System, IsKey}
