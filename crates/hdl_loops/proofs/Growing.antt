@@ -2,6 +2,7 @@
 use Rattle.std.proofs.Common.{◌≡◌, ℕ, zero, suc, ◌+◌, ◌<◌, ◌≤◌, ◌⊎◌, inl, inr, Bool, true, false, cond, nat_eq, List, [], ◌∷◌, ◌++◌, length, get_or, Option, Some, None, refl, sym, ap, subst, ◌∙◌, arith}
 use Rattle.std.specs.Prelude.{slice_get, is_some, ◌&&◌, if◌then◌else◌}
 use Rattle.std.specs.Map.{lookup}
+use Rattle.std.specs.List.{list_any}
 use Rattle.indexmap.specs.IndexMap.{insert_entry}
 use Rattle.std.specs.Str.{bytes_eq}
 use Rattle.std.specs.Cmp.Lexicographic.{bytes_decides}
@@ -12,12 +13,11 @@ use Rattle.hdl_plans.specs.Loops.{BitAt, bit_at}
 use Rattle.hdl_plans.specs.Ways.{Chain, Way}
 use Rattle.hdl_plans.proofs.Walks.{one_step}
 use Rattle.hdl_loops.specs.Inner.Hops.{bit, is_bit, HasHop, Linked, AllIn, IsDirect, IsWay, NoRound}
-use Rattle.hdl_loops.specs.Inner.Trees.{place_in, is_marked, IsReached, Behind, Comes, IsNoLater, IsBefore, IsNode, IsTree, KeepsMarks, IsFollowed, IsLeft, LeftBelow, LeftBefore, StandLater, Adds, IsClosed, IsGrown, open_hops, IsBack, steps_left}
-use Rattle.hdl_loops.specs.Inner.Leaving.{latest_from, IsFrom, IsPast, Leaves, LeavesIn, IsLinked}
+use Rattle.hdl_loops.specs.Inner.Trees.{place_in, is_marked, IsReached, Behind, Comes, IsNoLater, IsBefore, IsNode, IsTree, KeepsMarks, IsLeft, LeftBelow, LeftBefore, StandLater, Adds, IsClosed, IsGrown, open_hops, IsBack, steps_left, ArePassed}
 use Rattle.hdl_loops.specs.Inner.Ranked.{rank_at, Rise, AllRise}
+use Rattle.hdl_loops.specs.declared.bundle.Bundle.{Bundle}
 use Rattle.hdl_loops.specs.declared.hops.BitOf.{BitOf}
 use Rattle.hdl_loops.specs.declared.hops.Hop.{Hop}
-use Rattle.hdl_loops.specs.declared.leaving.Leaving.{Leaving}
 use Rattle.hdl_loops.specs.declared.ranks.Ranks.{Ranks}
 use Rattle.hdl_loops.specs.declared.tree.Node.{Node}
 use Rattle.hdl_loops.specs.declared.tree.Tree.{Tree}
@@ -145,6 +145,9 @@ new_tree t places nodes hs = record {
       let all = open_all t (λ x. ap (λ (es : List (BitOf × ℕ)). is_some (lookup (is_bit x) es)) places) hs in
       omega (arith, none, all);
 }
+
+pub none_passed : (bs : List Bundle) (t : Tree) → t.passed.keys ≡ [] → ArePassed bs t
+none_passed bs t none g h = absurd (let e : false ≡ true = sym (ap (list_any (nat_eq g)) none) ∙ h in cc)
 
 -- ---- a hop is added
 
@@ -460,44 +463,6 @@ absent_last (e ∷ es) k v h = absent_by e es (insert_entry same_bit es k v) k v
 
 pub left_kept : (hs : List Hop) (a b : Tree) (x : BitAt) → KeepsMarks a b → IsLeft hs a x → IsLeft hs b x
 left_kept hs a b x keeps left p h e f = keeps.marks h.to.name.now h.to.bit (left p h e f)
-
--- the hops that leave a bit and stand after those still to come were followed
-abbrev pub IsLeftPast : List Hop → Tree → BitAt → Option ℕ → Type 0
-IsLeftPast hs t x o = (q : ℕ) (h : Hop) → slice_get hs q ≡ Some h → bit h.from ≡ x → IsPast o q → is_marked t (bit h.to) ≡ true
-
-pub not_past : (o : Option ℕ) (q : ℕ) → IsFrom o q → IsPast o q → ⊥
-not_past None q f p = f
-not_past (Some r) q f p = omega (arith, f, p)
-
-pub past_start : (hs : List Hop) (l : Leaving) (t : Tree) (x : BitAt) (o : Option ℕ) → IsLinked hs l (length hs) → o ≡ latest_from l x → IsLeftPast hs t x o
-past_start hs l t x o linked is q h e at past =
-    absurd (not_past o q (subst (λ (v : Option ℕ). IsFrom v q) (sym is) (subst (λ (v : BitAt). IsFrom (latest_from l v) q) at (linked.latest q h (slice_get_within hs q h e) e))) past)
-
-heads_by : (hs : List Hop) (l : Leaving) (m : List ℕ) (b : ℕ) (o : Option ℕ) → IsLinked hs l (length hs) → o ≡ latest_from l (bit_at [] m b) → LeavesIn hs o (bit_at [] m b)
-heads_by hs l m b None linked is = tt
-heads_by hs l m b (Some p) linked is = (linked.heads m b p (sym is)).1
-
-pub leaves_start : (hs : List Hop) (l : Leaving) (m : List ℕ) (b : ℕ) (o : Option ℕ) → IsLinked hs l (length hs) → o ≡ latest_from l (bit_at [] m b) → LeavesIn hs o (bit_at [] m b)
-leaves_start hs l m b o linked is = heads_by hs l m b o linked is
-
-pub leaves_more : (hs : List Hop) (l : Leaving) (k : ℕ) (o : Option ℕ) (x : BitAt) → IsLinked hs l (length hs) → Leaves hs k x → slice_get l.before.items k ≡ Some o → LeavesIn hs o x
-leaves_more hs l k None x linked at e = tt
-leaves_more hs l k (Some r) x linked at e = subst (Leaves hs r) at.2 (linked.back k r at.0 at.1 e).1
-
-past_by : (hs : List Hop) (l : Leaving) (t new : Tree) (k : ℕ) (o : Option ℕ) (x : BitAt) → IsLinked hs l (length hs) → (at : Leaves hs k x) → slice_get l.before.items k ≡ Some o → KeepsMarks t new → is_marked new (bit at.0.to) ≡ true → IsLeftPast hs t x (Some k) →
-    (q : ℕ) (h : Hop) → slice_get hs q ≡ Some h → bit h.from ≡ x → IsPast o q → (k < q) ⊎ ((q ≡ k) ⊎ (q < k)) → is_marked new (bit h.to) ≡ true
-past_by hs l t new k o x linked at e keeps here was q h there from past (inl lt) = keeps.marks h.to.name.now h.to.bit (was q h there from lt)
-past_by hs l t new k o x linked at e keeps here was q h there from past (inr (inl same)) =
-    let f : slice_get hs k ≡ Some h = ap (slice_get hs) (sym same) ∙ there in
-    let g = at.1 in
-    let is : at.0 ≡ h = cc in
-    subst (λ (v : Hop). is_marked new (bit v.to) ≡ true) is here
-past_by hs l t new k o x linked at e keeps here was q h there from past (inr (inr lt)) =
-    absurd (not_past o q (linked.links k q at.0 h o (slice_get_within hs k at.0 at.1) at.1 there (from ∙ sym at.2) lt e) past)
-
-pub past_more : (hs : List Hop) (l : Leaving) (t new : Tree) (k : ℕ) (o : Option ℕ) (x : BitAt) → IsLinked hs l (length hs) → Leaves hs k x → slice_get l.before.items k ≡ Some o → KeepsMarks t new → IsFollowed hs k t new → IsReached t x → IsLeftPast hs t x (Some k) → IsLeftPast hs new x o
-past_more hs l t new k o x linked at e keeps followed reached was q h there from past =
-    past_by hs l t new k o x linked at e keeps (followed at.0 at.1 (subst (IsReached t) (sym at.2) reached)) was q h there from past (order k q)
 
 -- ---- what stands before a bit is left
 

@@ -87,7 +87,7 @@ pub record Made (chips : Chips) (known : List (Option Known)) (k : ℕ) (a b : T
   pub crosses_it : crosses chips known k a.pin b.pin ≡ true
   pub is : record { from = a.net; chip = k; input = a.pin; output = b.pin; to = b.net } ≡ leap
 
-not_true : (b : Bool) → not b ≡ true → b ≡ false
+pub not_true : (b : Bool) → not b ≡ true → b ≡ false
 not_true false h = refl
 not_true true h = absurd cc
 
@@ -103,7 +103,7 @@ made_by chips known k a b leap true e (inl h) =
 pub made_of : (chips : Chips) (known : List (Option Known)) (k : ℕ) (a b : Tie) (leap : Leap) → In leap (leap_by chips known k a b) → Made chips known k a b leap
 made_of chips known k a b leap h = made_by chips known k a b leap (a.input && (not b.input && crosses chips known k a.pin b.pin)) refl h
 
-all_three : (a b c : Bool) → a ≡ true → b ≡ false → c ≡ true → (a && (not b && c)) ≡ true
+pub all_three : (a b c : Bool) → a ≡ true → b ≡ false → c ≡ true → (a && (not b && c)) ≡ true
 all_three true false true e f g = refl
 all_three false b c e f g = absurd cc
 all_three true true c e f g = absurd cc

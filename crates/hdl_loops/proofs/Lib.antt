@@ -4,6 +4,8 @@ pub mod Placing
 pub mod Lists
 pub mod Growing
 pub mod Linking
+pub mod Bundling
+pub mod Dooring
 pub mod Hopping
 pub mod Pinning
 pub mod Ends

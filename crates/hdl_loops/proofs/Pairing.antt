@@ -7,7 +7,9 @@ use Rattle.hdl_check.proofs.MarkLemmas.{both}
 use Rattle.hdl_plans.specs.Loops.{BitAt, bit_at}
 use Rattle.hdl_plans.specs.Ways.{Chain, Way}
 use Rattle.hdl_plans.proofs.Walks.{one_step}
-use Rattle.hdl_loops.specs.Inner.Hops.{bit, is_bit, HasHop, turn}
+use Rattle.hdl_loops.specs.Inner.Hops.{bit, is_bit, HasHop}
+use Rattle.hdl_loops.specs.Inner.Bundles.{hops_in, turn}
+use Rattle.hdl_loops.specs.declared.bundle.Bundle.{Bundle}
 use Rattle.hdl_loops.specs.Inner.Trees.{place_in, IsGrown}
 use Rattle.hdl_loops.specs.Inner.Pairs.{is_pair, has_pair, has_name, AreWays, KeepsPairs, IsOnlyMore, BitLeads}
 use Rattle.hdl_loops.specs.declared.hops.Hop.{Hop}
@@ -16,6 +18,7 @@ use Rattle.hdl_loops.specs.declared.tree.Tree.{Tree}
 use Rattle.hdl_loops.specs.declared.pairs.Pair.{Pair}
 use Rattle.hdl_loops.specs.declared.pairs.PinNames.{PinNames}
 use Rattle.hdl_loops.proofs.Growing.{bit_is, some_of, node_way, way_marked, one_more}
+use Rattle.hdl_loops.proofs.Bundling.{hop_back, hop_forth}
 use Rattle.hdl_loops.proofs.Lists.{get_there}
 use Rattle.hdl_loops.proofs.Passing.{any_inserted}
 
@@ -78,51 +81,29 @@ leads_kept hs names old new x keeps leads m k named w = keeps x (bit_at [] m k) 
 
 -- ---- hops the other way
 
-turned_at : (hs : List Hop) (p : ℕ) (h : Hop) → slice_get hs p ≡ Some h → slice_get (map turn hs) p ≡ Some (turn h)
-turned_at [] p h e = absurd cc
-turned_at (x ∷ xs) zero h e = let same : x ≡ h = cc in ap (λ (v : Hop). Some (turn v)) same
-turned_at (x ∷ xs) (suc p) h e = turned_at xs p h e
-
-turned_from : (hs : List Hop) (p : ℕ) (g : Hop) → slice_get (map turn hs) p ≡ Some g → (h : Hop) × (slice_get hs p ≡ Some h) × (turn h ≡ g)
-turned_from [] p g e = absurd cc
-turned_from (x ∷ xs) zero g e = (x, refl, cc)
-turned_from (x ∷ xs) (suc p) g e = turned_from xs p g e
-
-pub hop_back : (hs : List Hop) (x y : BitAt) → HasHop hs x y → HasHop (map turn hs) y x
-hop_back hs x y s = (s.0, turn s.1, turned_at hs s.0 s.1 s.2, s.4, s.3)
-
-pub hop_forth : (hs : List Hop) (x y : BitAt) → HasHop (map turn hs) y x → HasHop hs x y
-hop_forth hs x y s =
-    let r = turned_from hs s.0 s.1 s.2 in
-    (s.0, r.0, r.1, ap (λ (v : Hop). bit v.to) r.2 ∙ s.4, ap (λ (v : Hop). bit v.from) r.2 ∙ s.3)
-
 -- a way is gone back by the hops the other way
 back_on : (hs gs : List Hop) (ms : List BitAt) (x y : BitAt) → ((a b : BitAt) → HasHop hs a b → HasHop gs b a) → Chain (HasHop hs) x ms y → Way (HasHop gs) y x
 back_on hs gs [] x y go s = one_step y x (go x y s)
 back_on hs gs (m ∷ ms) x y go s = one_more gs y m x (back_on hs gs ms m y go s.1) (go x m s.0)
 
-pub way_back : (hs back : List Hop) → back ≡ map turn hs → (x y : BitAt) → Way (HasHop hs) x y → Way (HasHop back) y x
-way_back hs back is x y w = subst (λ (v : List Hop). Way (HasHop v) y x) (sym is) (back_on hs (map turn hs) w.over x y (hop_back hs) w.steps)
+pub way_back : (bs back : List Bundle) → back ≡ map turn bs → (x y : BitAt) → Way (HasHop (hops_in bs)) x y → Way (HasHop (hops_in back)) y x
+way_back bs back is x y w = subst (λ (v : List Bundle). Way (HasHop (hops_in v)) y x) (sym is) (back_on (hops_in bs) (hops_in (map turn bs)) w.over x y (hop_back bs) w.steps)
 
-pub way_forth : (hs back : List Hop) → back ≡ map turn hs → (x y : BitAt) → Way (HasHop back) y x → Way (HasHop hs) x y
-way_forth hs back is x y w =
-    let v : Way (HasHop (map turn hs)) y x = subst (λ (v : List Hop). Way (HasHop v) y x) is w in
-    back_on (map turn hs) hs v.over y x (λ a b h. hop_forth hs b a h) v.steps
+pub way_forth : (bs back : List Bundle) → back ≡ map turn bs → (x y : BitAt) → Way (HasHop (hops_in back)) y x → Way (HasHop (hops_in bs)) x y
+way_forth bs back is x y w =
+    let v : Way (HasHop (hops_in (map turn bs))) y x = subst (λ (v : List Bundle). Way (HasHop (hops_in v)) y x) is w in
+    back_on (hops_in (map turn bs)) (hops_in bs) v.over y x (λ a b h. hop_forth bs b a h) v.steps
 
--- ---- hops that are turned where they stand
+-- ---- bundles that are turned where they stand
 
-pub turned_twice : (hs : List Hop) → map turn (map turn hs) ≡ hs
-turned_twice [] = refl
-turned_twice (h ∷ hs) = ap (λ (v : List Hop). h ∷ v) (turned_twice hs)
+one_done_at : (bs : List Bundle) (k : ℕ) (b : Bundle) → k < length bs → slice_index_or (map turn (take k bs) ++ drop k bs) k b ≡ b → slice_set (map turn (take k bs) ++ drop k bs) k (turn b) ≡ map turn (take (suc k) bs) ++ drop (suc k) bs
+one_done_at [] k b lt e = absurd (omega (arith, lt))
+one_done_at (x ∷ bs) zero b lt e = ap (λ (v : Bundle). turn v ∷ bs) (sym e)
+one_done_at (x ∷ bs) (suc k) b lt e = ap (λ (v : List Bundle). turn x ∷ v) (one_done_at bs k b (omega (arith, lt)) e)
 
-one_done_at : (hs : List Hop) (k : ℕ) (h : Hop) → k < length hs → slice_index_or (map turn (take k hs) ++ drop k hs) k h ≡ h → slice_set (map turn (take k hs) ++ drop k hs) k (turn h) ≡ map turn (take (suc k) hs) ++ drop (suc k) hs
-one_done_at [] k h lt e = absurd (omega (arith, lt))
-one_done_at (x ∷ hs) zero h lt e = ap (λ (v : Hop). turn v ∷ hs) (sym e)
-one_done_at (x ∷ hs) (suc k) h lt e = ap (λ (v : List Hop). turn x ∷ v) (one_done_at hs k h (omega (arith, lt)) e)
+pub one_done : (bs now : List Bundle) (k : ℕ) (b : Bundle) → k < length bs → now ≡ map turn (take k bs) ++ drop k bs → slice_index_or now k b ≡ b → slice_set now k (turn b) ≡ map turn (take (suc k) bs) ++ drop (suc k) bs
+one_done bs now k b lt is e =
+    ap (λ (v : List Bundle). slice_set v k (turn b)) is ∙ one_done_at bs k b lt (ap (λ (v : List Bundle). slice_index_or v k b) (sym is) ∙ e)
 
-pub one_done : (hs now : List Hop) (k : ℕ) (h : Hop) → k < length hs → now ≡ map turn (take k hs) ++ drop k hs → slice_index_or now k h ≡ h → slice_set now k (turn h) ≡ map turn (take (suc k) hs) ++ drop (suc k) hs
-one_done hs now k h lt is e =
-    ap (λ (v : List Hop). slice_set v k (turn h)) is ∙ one_done_at hs k h lt (ap (λ (v : List Hop). slice_index_or v k h) (sym is) ∙ e)
-
-pub all_done : (hs now : List Hop) (k : ℕ) → length hs ≤ k → now ≡ map turn (take k hs) ++ drop k hs → now ≡ map turn hs
-all_done hs now k le is = is ∙ ap (λ (v : List Hop). map turn v ++ drop k hs) (take_all k hs le) ∙ ap (λ (v : List Hop). map turn hs ++ v) (drop_all k hs le) ∙ append-nil (map turn hs)
+pub all_done : (bs now : List Bundle) (k : ℕ) → length bs ≤ k → now ≡ map turn (take k bs) ++ drop k bs → now ≡ map turn bs
+all_done bs now k le is = is ∙ ap (λ (v : List Bundle). map turn v ++ drop k bs) (take_all k bs le) ∙ ap (λ (v : List Bundle). map turn bs ++ v) (drop_all k bs le) ∙ append-nil (map turn bs)

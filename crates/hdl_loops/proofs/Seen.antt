@@ -1,5 +1,5 @@
 -- A way in the own graph of a chip is one of hops, and what was seen of a chip is right.
-use Rattle.std.proofs.Common.{◌≡◌, ℕ, ◌<◌, ◌⊎◌, inl, inr, Bool, true, false, List, [], ◌∷◌, Option, Some, None, length, refl, sym, ap, subst, ◌∙◌}
+use Rattle.std.proofs.Common.{◌≡◌, ℕ, ◌<◌, ◌⊎◌, inl, inr, Bool, true, false, List, [], ◌∷◌, Option, Some, None, refl, sym, ap, subst, ◌∙◌}
 use Rattle.std.specs.Prelude.{slice_get, is_some}
 use Rattle.hdl_tree.specs.declared.tree.Part.{Part}
 use Rattle.hdl_tree.specs.declared.library.Entry.{Entry}
@@ -13,8 +13,8 @@ use Rattle.hdl_plans.proofs.Circles.{own_way, circle_to_own}
 use Rattle.hdl_plans.proofs.Walks.{at_part, part_at, joined_inner, one_step, step_way}
 use Rattle.hdl_loops.specs.Inner.Hops.{HasHop, NoRound}
 use Rattle.hdl_loops.specs.Inner.Ties.{In, tie, ties_in, gather}
-use Rattle.hdl_loops.specs.Inner.Leaving.{IsLinked}
-use Rattle.hdl_loops.specs.Inner.Knowing.{leads, crosses, crosses_by, crosses_in, place_of, IsGraph, IsFull, IsRight, AreKnown, IsDone, PartsDone, TreeClear}
+use Rattle.hdl_loops.specs.Inner.Bundles.{AreDoors}
+use Rattle.hdl_loops.specs.Inner.Knowing.{hops_of, leads, crosses, crosses_by, crosses_in, place_of, IsGraph, IsFull, IsRight, AreKnown, IsDone, PartsDone, TreeClear}
 use Rattle.hdl_loops.specs.declared.hops.Hop.{Hop}
 use Rattle.hdl_loops.specs.declared.known.Known.{Known}
 use Rattle.hdl_loops.proofs.Ends.{end_clear, end_depends}
@@ -184,17 +184,17 @@ module _ (chips : Chips) (known : List (Option Known)) (chip : Entry) (hs : List
       third_by n b p q r s (moves_by chips chip s.i r.path q.name q.bit r.name r.bit h)
 
   -- a way of the own graph between bits of the chip is one of hops
-  hops_of : (ms : List BitAt) (n : List ℕ) (b : ℕ) (m : List ℕ) (k : ℕ) → Chain (Own chips chip) (bit_at [] n b) ms (bit_at [] m k) → Way (HasHop hs) (bit_at [] n b) (bit_at [] m k)
-  hops_of [] n b m k f = absurd (let e = f.is in cc)
-  hops_of (p ∷ []) n b m k f = absurd (let s = second_of n b p (bit_at [] m k) f.0 f.1 in let e = s.path in cc)
-  hops_of (p ∷ q ∷ []) n b m k f = one_step (bit_at [] n b) (bit_at [] m k) (third_of n b p q (bit_at [] m k) (second_of n b p q f.0 f.1.0) f.1.1).hop
-  hops_of (p ∷ q ∷ r ∷ ms) n b m k f =
+  hops_along : (ms : List BitAt) (n : List ℕ) (b : ℕ) (m : List ℕ) (k : ℕ) → Chain (Own chips chip) (bit_at [] n b) ms (bit_at [] m k) → Way (HasHop hs) (bit_at [] n b) (bit_at [] m k)
+  hops_along [] n b m k f = absurd (let e = f.is in cc)
+  hops_along (p ∷ []) n b m k f = absurd (let s = second_of n b p (bit_at [] m k) f.0 f.1 in let e = s.path in cc)
+  hops_along (p ∷ q ∷ []) n b m k f = one_step (bit_at [] n b) (bit_at [] m k) (third_of n b p q (bit_at [] m k) (second_of n b p q f.0 f.1.0) f.1.1).hop
+  hops_along (p ∷ q ∷ r ∷ ms) n b m k f =
       let t = third_of n b p q r (second_of n b p q f.0 f.1.0) f.1.1.0 in
       let r_is : r ≡ flat r = ap (λ (v : List ℕ). bit_at v r.name r.bit) t.path in
-      step_way (bit_at [] n b) (flat r) (bit_at [] m k) t.hop (hops_of ms r.name r.bit m k (subst (λ (v : BitAt). Chain (Own chips chip) v ms (bit_at [] m k)) r_is f.1.1.1))
+      step_way (bit_at [] n b) (flat r) (bit_at [] m k) t.hop (hops_along ms r.name r.bit m k (subst (λ (v : BitAt). Chain (Own chips chip) v ms (bit_at [] m k)) r_is f.1.1.1))
 
   own_hops : (n : List ℕ) (b : ℕ) (m : List ℕ) (k : ℕ) → Way (Own chips chip) (bit_at [] n b) (bit_at [] m k) → Way (HasHop hs) (bit_at [] n b) (bit_at [] m k)
-  own_hops n b m k w = hops_of w.over n b m k w.steps
+  own_hops n b m k w = hops_along w.over n b m k w.steps
 
   depends_hops : (n m : List ℕ) (b k : ℕ) → Depends chips chip n b m k → Way (HasHop hs) (bit_at [] n b) (bit_at [] m k)
   depends_hops n m b k d = own_hops n b m k (own_way chips chip (fit [] chip refl) n m b k d.way)
@@ -210,16 +210,16 @@ pub graph_full : (chips : Chips) (known : List (Option Known)) (chip : Entry) (h
 graph_full chips known chip hs is right done fit i inner x p q y found f g d = hop_through chips known chip hs is right done fit i x p q y f g inner found d
 
 -- what was seen of a chip is right
-pub seen_right : (chips : Chips) (known : List (Option Known)) (chip : Entry) (inside : Known) → end_of chips.memories chip ≡ None → IsGraph chips known chip inside.hops.items → AreKnown chips known → PartsDone chips known chip → NoRound inside.hops.items →
-    IsLinked inside.hops.items inside.leaving (length inside.hops.items) → ((n m : List ℕ) (b k : ℕ) → leads inside (bit_at [] n b) (bit_at [] m k) ≡ true → Way (HasHop inside.hops.items) (bit_at [] n b) (bit_at [] m k)) →
-    ((n m : List ℕ) (b k : ℕ) → HasBit chip.chip.inputs n b → HasBit chip.chip.outputs m k → Way (HasHop inside.hops.items) (bit_at [] n b) (bit_at [] m k) → leads inside (bit_at [] n b) (bit_at [] m k) ≡ true) → IsRight chips known chip inside
+pub seen_right : (chips : Chips) (known : List (Option Known)) (chip : Entry) (inside : Known) → end_of chips.memories chip ≡ None → IsGraph chips known chip (hops_of inside) → AreKnown chips known → PartsDone chips known chip → NoRound (hops_of inside) →
+    AreDoors inside.graph.items inside.doors → ((n m : List ℕ) (b k : ℕ) → leads inside (bit_at [] n b) (bit_at [] m k) ≡ true → Way (HasHop (hops_of inside)) (bit_at [] n b) (bit_at [] m k)) →
+    ((n m : List ℕ) (b k : ℕ) → HasBit chip.chip.inputs n b → HasBit chip.chip.outputs m k → Way (HasHop (hops_of inside)) (bit_at [] n b) (bit_at [] m k) → leads inside (bit_at [] n b) (bit_at [] m k) ≡ true) → IsRight chips known chip inside
 seen_right chips known chip inside no_end is right done none linked sound there = record {
-  hops = graph_hops chips known chip inside.hops.items is;
+  hops = graph_hops chips known chip (hops_of inside) is;
   linked = linked;
   sound = sound;
-  covers = λ fit n m b k d. there n m b k d.from d.to (depends_hops chips known chip inside.hops.items no_end is right done fit n m b k d);
-  clear = λ fit. clear_of chips known chip inside.hops.items no_end is right done fit none;
-  full = λ fit. graph_full chips known chip inside.hops.items is right done fit;
+  covers = λ fit n m b k d. there n m b k d.from d.to (depends_hops chips known chip (hops_of inside) no_end is right done fit n m b k d);
+  clear = λ fit. clear_of chips known chip (hops_of inside) no_end is right done fit none;
+  full = λ fit. graph_full chips known chip (hops_of inside) is right done fit;
 }
 
 -- a chip whose own graph has no circle, and whose parts are known

@@ -8,7 +8,7 @@ use Rattle.hdl_tree.specs.Chips.{Chips}
 use Rattle.hdl_plans.specs.Loops.{BitAt, bit_at, IsLoop}
 use Rattle.hdl_loops.specs.Inner.Hops.{bit, input_of, output_of, Linked}
 use Rattle.hdl_check.proofs.Stages.{entry_there}
-use Rattle.hdl_loops.specs.Inner.Knowing.{AreHops, IsStraight, AreKnown, IsWayIn, Nests}
+use Rattle.hdl_loops.specs.Inner.Knowing.{hops_of, AreHops, IsStraight, AreKnown, IsWayIn, Nests}
 use Rattle.hdl_loops.specs.Inner.Stacked.{times, power}
 use Rattle.hdl_loops.specs.Inner.Report.{Trip, TripAmong, AreTold, add_name, add_names, names_of, was_passed}
 use Rattle.hdl_loops.specs.Inner.Tasks.{net_tasks, way_tasks, Goes, IsSure, IsTask, AreTasks, twice, hop_count, room, tasks_weight}
@@ -132,12 +132,12 @@ room_two : (ks : List (Option Known)) → 1 < room ks
 room_two [] = omega arith
 room_two (k ∷ ks) = let h = room_two ks in omega (arith, h)
 
-pub room_more : (ks : List (Option Known)) (k : ℕ) (inside : Known) → slice_get ks k ≡ Some (Some inside) → twice (length inside.hops.items) < room ks
+pub room_more : (ks : List (Option Known)) (k : ℕ) (inside : Known) → slice_get ks k ≡ Some (Some inside) → twice (length (hops_of inside)) < room ks
 room_more [] k inside e = absurd cc
 room_more (x ∷ ks) zero inside e =
     let h = room_two ks in
     let same : x ≡ Some inside = cc in
-    let n : twice (hop_count x) ≡ twice (length inside.hops.items) = ap (λ (o : Option Known). twice (hop_count o)) same in
+    let n : twice (hop_count x) ≡ twice (length (hops_of inside)) = ap (λ (o : Option Known). twice (hop_count o)) same in
     omega (arith, h, n)
 room_more (x ∷ ks) (suc k) inside e = let h = room_more ks k inside e in omega (arith, h)
 
@@ -149,13 +149,13 @@ way_weight : (b d : ℕ) (p : Passage) (ws : List Hop) (ts : List Task) → 0 < 
 way_weight b d p [] ts lt pos = absurd (omega (arith, lt))
 way_weight b d p (h ∷ ws) ts lt pos = let r = nets_weight b d ws (tasks.Passed p ∷ ts) pos in omega (arith, r, pos)
 
-pub pass_less : (ks : List (Option Known)) (k : ℕ) (inside : Known) (d e : ℕ) (p : Passage) (ws : List Hop) (ts : List Task) → slice_get ks k ≡ Some (Some inside) → length ws ≤ length inside.hops.items → 0 < length ws → suc e ≡ d → tasks_weight (room ks) (way_tasks e ws ++ tasks.Passed p ∷ ts) < tasks_weight (room ks) (tasks.Pass p d ∷ ts)
+pub pass_less : (ks : List (Option Known)) (k : ℕ) (inside : Known) (d e : ℕ) (p : Passage) (ws : List Hop) (ts : List Task) → slice_get ks k ≡ Some (Some inside) → length ws ≤ length (hops_of inside) → 0 < length ws → suc e ≡ d → tasks_weight (room ks) (way_tasks e ws ++ tasks.Passed p ∷ ts) < tasks_weight (room ks) (tasks.Pass p d ∷ ts)
 pass_less ks k inside d e p ws ts there few lt same =
     let b = room ks in
     let two = room_two ks in
     let pos : 0 < power b e = power_pos b e (omega (arith, two)) in
     let more = room_more ks k inside there in
-    let le = twice_le (length ws) (length inside.hops.items) few in
+    let le = twice_le (length ws) (length (hops_of inside)) few in
     let small = times_less (twice (length ws)) b (power b e) (omega (arith, more, le)) pos in
     let w = way_weight b e p ws ts lt pos in
     let u : times b (power b e) ≡ power b d = ap (power b) same in
@@ -192,7 +192,7 @@ pub passed_over : (e : ℕ) (p : Passage) (ws list : List Hop) (old mid new : Li
 passed_over e p ws list old mid new same pushed put =
     put ∙ (ap (λ (v : List Hop). way_tasks e v ++ reverse mid) same ∙ ap (λ (v : List Task). way_tasks e ws ++ v) (from_top mid old (tasks.Passed p) pushed))
 
-few_of : (o : Option (Option Known)) (x y : BitAt) (ws : List Hop) → IsWayIn o x ws y → (inside : Known) × (o ≡ Some (Some inside)) × (length ws ≤ length inside.hops.items)
+few_of : (o : Option (Option Known)) (x y : BitAt) (ws : List Hop) → IsWayIn o x ws y → (inside : Known) × (o ≡ Some (Some inside)) × (length ws ≤ length (hops_of inside))
 few_of None x y ws w = absurd w
 few_of (Some None) x y ws w = absurd w
 few_of (Some (Some inside)) x y ws w = (inside, refl, w.few)

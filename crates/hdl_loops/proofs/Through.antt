@@ -8,7 +8,7 @@ use Rattle.hdl_tree.specs.Behaviour.{chip_of, inner_chip}
 use Rattle.hdl_plans.specs.Loops.{BitAt}
 use Rattle.hdl_plans.specs.Ways.{TreeFits}
 use Rattle.hdl_loops.specs.Inner.Hops.{Linked}
-use Rattle.hdl_loops.specs.Inner.Knowing.{crosses, crosses_in, crosses_by, end_crosses, leads_in, AreKnown, AreHops, IsHop, IsStraight, HasWays, IsWayIn, Nests, NestsAt}
+use Rattle.hdl_loops.specs.Inner.Knowing.{hops_of, crosses, crosses_in, crosses_by, end_crosses, leads_in, AreKnown, AreHops, IsHop, IsStraight, HasWays, IsWayIn, Nests, NestsAt}
 use Rattle.hdl_loops.specs.declared.hops.Hop.{Hop}
 use Rattle.hdl_loops.specs.declared.known.Known.{Known}
 use Rattle.hdl_loops.proofs.Nesting.{parts_nest}
@@ -37,7 +37,7 @@ module _ (chips : Chips) (known : List (Option Known)) (k : ℕ) (entry : Entry)
   straight_by : (o : Option (Option Known)) (x y : BitAt) (ws : List Hop) → slice_get known k ≡ o → TreeFits chips entry → AreKnown chips known → IsWayIn o x ws y → IsStraight chips entry ws
   straight_by None x y ws e fit are w = absurd w
   straight_by (Some None) x y ws e fit are w = absurd w
-  straight_by (Some (Some inside)) x y ws e fit are w = record { all = inside.hops.items; full = (are k entry inside at e).full fit; inside = w.inside; direct = w.direct }
+  straight_by (Some (Some inside)) x y ws e fit are w = record { all = (hops_of inside); full = (are k entry inside at e).full fit; inside = w.inside; direct = w.direct }
 
   pub way_straight : (x y : BitAt) (ws : List Hop) → TreeFits chips entry → AreKnown chips known → IsWayIn (slice_get known k) x ws y → IsStraight chips entry ws
   way_straight x y ws fit are w = straight_by (slice_get known k) x y ws refl fit are w

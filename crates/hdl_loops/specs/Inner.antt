@@ -1,6 +1,7 @@
 pub mod Hops
 pub mod Ties
 pub mod Leaving
+pub mod Bundles
 pub mod Pairs
 pub mod Trees
 pub mod Ranked

@@ -8,13 +8,14 @@ ghost use Rattle.hdl_check.specs.Whole.{chips_in, TopIsFaultless};
 ghost use Rattle.hdl_plans.specs.Loops.{IsLoop};
 ghost use Rattle.hdl_plans.specs.Ways.{TreeFits};
 ghost use Rattle.hdl_loops.specs.Inner.Hops.{NoRound};
+ghost use Rattle.hdl_loops.specs.Inner.Bundles.{hops_in};
 ghost use Rattle.hdl_loops.specs.Inner.Looked.{LooksRight, TellsLoop, EndsLook};
 ghost use Rattle.hdl_loops.specs.Inner.Stacked.{IsStack, IsEntered, HasOnlyLast, weight};
 ghost use Rattle.hdl_loops.specs.Inner.Knowing.{ArePlaces, AreHops, IsFull, AreKnown, IsKnown, IsDone, Notes, Nests, PartsDone, StaysKnown, KnowNothing, NestsAt, TreeClear};
 
+use crate::bundle::Bundle;
 use crate::circle::circle_in;
 use crate::graph::graph_of;
-use crate::hops::Hop;
 use crate::known::{Known, known_of};
 use crate::names::nets_of;
 use crate::places::{Places, place, places_of};
@@ -65,17 +66,18 @@ fn loop_in<'a>(
     memories: Memories,
     known: &[Option<Known<'a>>],
     entry: &'a Entry,
-    hops: &[Hop<'a>],
+    graph: &[Bundle<'a>],
     depth: usize,
 ) -> Result<Option<Vec<Name>>, AllocError>
     requires known { AreKnown (chips_in entries.now memories) known.now }
-    requires hops { AreHops (chips_in entries.now memories) known.now entry.now hops.now }
-    requires full { IsFull (chips_in entries.now memories) entry.now hops.now }
+    requires hops { AreHops (chips_in entries.now memories) known.now entry.now
+        (hops_in graph.now) }
+    requires full { IsFull (chips_in entries.now memories) entry.now (hops_in graph.now) }
     requires nests { Nests depth (chips_in entries.now memories) entry.now }
-    ensures { IfOk result (λ r. MatchOption r (NoRound hops.now)
+    ensures { IfOk result (λ r. MatchOption r (NoRound (hops_in graph.now))
         (λ nets. IsLoop (chips_in entries.now memories) entry.now nets.items)) }
 {
-    match circle_in(alloc, hops)? {
+    match circle_in(alloc, graph)? {
         None => Ok(None),
         Some(circle) => {
             let nets = nets_of(alloc, entries, memories, known, entry, &circle, depth)?;
@@ -101,7 +103,7 @@ fn look_at<'a>(
     requires nests { Nests depth (chips_in entries.now memories) entry.now }
     ensures { IfOk result (LooksRight (chips_in entries.now memories) known.now entry.now) }
 {
-    let hops = graph_of(
+    let graph = graph_of(
         alloc,
         entries,
         places,
@@ -109,11 +111,11 @@ fn look_at<'a>(
         known,
         parts_of(memories, entry),
     )?;
-    let list = hops.as_slice();
+    let list = graph.as_slice();
     match loop_in(alloc, entries, memories, known, entry, list, depth)? {
         Some(nets) => Ok(Look::Loop(nets)),
         None => {
-            let inside = known_of(alloc, entry, hops)?;
+            let inside = known_of(alloc, entry, graph)?;
             Ok(Look::Fine(inside))
         }
     }
@@ -287,8 +289,8 @@ fn look_last<'a>(
 {
     let entry = &entries[k];
     let parts = parts_of(memories, entry);
-    let hops = graph_of(alloc, entries, places, memories, known, parts)?;
-    loop_in(alloc, entries, memories, known, entry, &hops, depth)
+    let graph = graph_of(alloc, entries, places, memories, known, parts)?;
+    loop_in(alloc, entries, memories, known, entry, &graph, depth)
 }
 
 /// Whether chip k alone stands on the stack, with no part left.

@@ -4,24 +4,26 @@ ghost use Rattle.std.specs.Prelude.{◌≡◌, ◌<◌, ℕ, true, List, [], IfO
 ghost use Rattle.hdl_check.specs.Whole.{chips_in};
 ghost use Rattle.hdl_plans.specs.Loops.{reaches_out, bit_at};
 ghost use Rattle.hdl_plans.specs.Ways.{Way, HasBit};
-ghost use Rattle.hdl_loops.specs.Inner.Hops.{bit, HasHop, IsWay, turn};
-ghost use Rattle.hdl_loops.specs.Inner.Leaving.{IsLinked};
+ghost use Rattle.hdl_loops.specs.Inner.Hops.{bit, HasHop, IsWay};
+ghost use Rattle.hdl_loops.specs.Inner.Bundles.{AreDoors, hops_in, turn};
 ghost use Rattle.hdl_loops.specs.Inner.Pairs.{AreWays, has_pair};
 ghost use Rattle.hdl_loops.specs.Inner.Knowing.{leads, leads_in, crosses, end_crosses};
 
+use crate::bundle::Bundle;
+use crate::doors::Doors;
 use crate::hops::{BitOf, Hop};
-use crate::leaving::Leaving;
 use crate::pairs::{Pair, pairs_of};
 use crate::tree::Tree;
 use hdl_tree::{End, Entry, Memories, Pin, find_end};
 use indexmap::IndexSet;
 use std::alloc::{AllocError, Global};
+use std::mem;
 
 /// What is known of a chip that is no end: the hops of its own graph, and which inputs lead to which outputs. Where it has fewer outputs
 /// these are searched for against the hops, and the pairs are turned.
 pub struct Known<'a> {
-    pub hops: Vec<Hop<'a>>,
-    pub leaving: Leaving<'a>,
+    pub graph: Vec<Bundle<'a>>,
+    pub doors: Doors<'a>,
     pub turned: bool,
     pub pairs: IndexSet<Pair<'a>>,
 }
@@ -30,8 +32,8 @@ pub struct Known<'a> {
 impl Drop for Known<'_> {
     fn drop(self) {
         let Known {
-            hops: _,
-            leaving: _,
+            graph: _,
+            doors: _,
             turned: _,
             pairs: _,
         } = self;
@@ -62,15 +64,14 @@ impl<'a> Known<'a> {
         input: &BitOf<'a>,
         to: &BitOf<'a>,
     ) -> Result<Vec<Hop<'a>>, AllocError>
-        requires linked { IsLinked self.now.hops.items self.now.leaving
-            (length self.now.hops.items) }
-        requires leads { Way (HasHop self.now.hops.items) (bit input.now) (bit to.now) }
+        requires linked { AreDoors self.now.graph.items self.now.doors }
+        requires leads { Way (HasHop (hops_in self.now.graph.items)) (bit input.now) (bit to.now) }
         ensures { IfOk result
-            (λ v. IsWay self.now.hops.items (bit input.now) v.items (bit to.now)) }
+            (λ v. IsWay (hops_in self.now.graph.items) (bit input.now) v.items (bit to.now)) }
     {
-        let hops = self.hops.as_slice();
-        let tree = Tree::of(alloc, hops, &self.leaving, *input)?;
-        match tree.way_to(alloc, hops, to)? {
+        let graph = self.graph.as_slice();
+        let tree = Tree::of(alloc, graph, &self.doors, *input)?;
+        match tree.way_to(alloc, graph, to)? {
             None => unreachable!(),
             Some(way) => Ok(way),
         }
@@ -126,25 +127,19 @@ pub(crate) fn crosses<'a>(
     }
 }
 
-/// A hop the other way.
-fn turn<'a>(hop: &Hop<'a>) -> Hop<'a>
-    ensures { result ≡ turn hop.now }
+/// Turns the hops of a bundle the other way.
+fn turn<'a>(bundle: &mut Bundle<'a>)
+    ensures { bundle.new ≡ turn bundle.old }
 {
-    Hop {
-        from: hop.to,
-        chip: hop.chip,
-        through: hop.through,
-        to: hop.from,
-    }
+    mem::swap(&mut bundle.enters, &mut bundle.leaves);
 }
 
 /// Turns each hop the other way.
-fn turn_all<'a>(hops: &mut Vec<Hop<'a>>)
-    ensures { hops.new.items ≡ map turn hops.old.items }
+fn turn_all<'a>(graph: &mut Vec<Bundle<'a>>)
+    ensures { graph.new.items ≡ map turn graph.old.items }
 {
-    for k in 0..hops.len() {
-        let hop = hops[k];
-        hops[k] = turn(&hop);
+    for k in 0..graph.len() {
+        turn(&mut graph[k]);
     }
 }
 
@@ -157,80 +152,81 @@ fn count_bits(pins: &[Pin]) -> u64 {
     count
 }
 
-/// The pairs of a bit of the first pins and a bit of the second to which it leads by hops, which are linked here.
+/// The pairs of a bit of the first pins and a bit of the second to which it leads, the doors being found here.
 fn linked_pairs<'a>(
     alloc: Global,
-    hops: &[Hop<'a>],
+    graph: &[Bundle<'a>],
     first: &'a [Pin],
     second: &'a [Pin],
 ) -> Result<IndexSet<Pair<'a>>, AllocError>
-    ensures right { IfOk result (λ s. AreWays hops.now s.keys) }
+    ensures right { IfOk result (λ s. AreWays (hops_in graph.now) s.keys) }
     ensures there { IfOk result (λ s. (n m : List ℕ) (b k : ℕ) → HasBit first.now n b
-        → HasBit second.now m k → Way (HasHop hops.now) (bit_at [] n b) (bit_at [] m k)
+        → HasBit second.now m k
+        → Way (HasHop (hops_in graph.now)) (bit_at [] n b) (bit_at [] m k)
         → has_pair s.keys (bit_at [] n b) (bit_at [] m k) ≡ true) }
 {
-    let leaving = Leaving::of(alloc, hops)?;
-    pairs_of(alloc, hops, &leaving, first, second)
+    let doors = Doors::of(alloc, graph)?;
+    pairs_of(alloc, graph, &doors, first, second)
 }
 
 /// The pairs of a bit of the first pins and a bit of the second that leads to it. The hops are turned for it and turned back, so that they
 /// stand once in memory.
 fn turned_pairs<'a>(
     alloc: Global,
-    hops: &mut Vec<Hop<'a>>,
+    graph: &mut Vec<Bundle<'a>>,
     first: &'a [Pin],
     second: &'a [Pin],
 ) -> Result<IndexSet<Pair<'a>>, AllocError>
-    ensures same { OnOk result (hops.new.items ≡ hops.old.items) }
+    ensures same { OnOk result (graph.new.items ≡ graph.old.items) }
     ensures right { IfOk result
         (λ s. (n m : List ℕ) (b k : ℕ) → has_pair s.keys (bit_at [] n b) (bit_at [] m k) ≡ true
-        → Way (HasHop hops.old.items) (bit_at [] m k) (bit_at [] n b)) }
+        → Way (HasHop (hops_in graph.old.items)) (bit_at [] m k) (bit_at [] n b)) }
     ensures there { IfOk result (λ s. (n m : List ℕ) (b k : ℕ) → HasBit first.now n b
-        → HasBit second.now m k → Way (HasHop hops.old.items) (bit_at [] m k) (bit_at [] n b)
+        → HasBit second.now m k
+        → Way (HasHop (hops_in graph.old.items)) (bit_at [] m k) (bit_at [] n b)
         → has_pair s.keys (bit_at [] n b) (bit_at [] m k) ≡ true) }
 {
-    turn_all(hops);
-    let pairs = linked_pairs(alloc, hops.as_slice(), first, second)?;
-    turn_all(hops);
+    turn_all(graph);
+    let pairs = linked_pairs(alloc, graph.as_slice(), first, second)?;
+    turn_all(graph);
     Ok(pairs)
 }
 
-/// What is known of a chip that is no end and has these hops.
+/// What is known of a chip that is no end and has this graph.
 pub(crate) fn known_of<'a>(
     alloc: Global,
     entry: &'a Entry,
-    hops: Vec<Hop<'a>>,
+    graph: Vec<Bundle<'a>>,
 ) -> Result<Known<'a>, AllocError>
-    ensures hops { IfOk result (λ inside. inside.hops.items ≡ hops.entry.items) }
-    ensures linked { IfOk result
-        (λ inside. IsLinked inside.hops.items inside.leaving (length inside.hops.items)) }
+    ensures graph { IfOk result (λ inside. inside.graph.items ≡ graph.entry.items) }
+    ensures linked { IfOk result (λ inside. AreDoors inside.graph.items inside.doors) }
     ensures right { IfOk result
         (λ inside. (n m : List ℕ) (b k : ℕ) → leads inside (bit_at [] n b) (bit_at [] m k) ≡ true
-        → Way (HasHop inside.hops.items) (bit_at [] n b) (bit_at [] m k)) }
+        → Way (HasHop (hops_in inside.graph.items)) (bit_at [] n b) (bit_at [] m k)) }
     ensures there { IfOk result (λ inside. (n m : List ℕ) (b k : ℕ)
         → HasBit entry.now.chip.inputs n b → HasBit entry.now.chip.outputs m k
-        → Way (HasHop inside.hops.items) (bit_at [] n b) (bit_at [] m k)
+        → Way (HasHop (hops_in inside.graph.items)) (bit_at [] n b) (bit_at [] m k)
         → leads inside (bit_at [] n b) (bit_at [] m k) ≡ true) }
 {
     let inputs = entry.chip.inputs.as_slice();
     let outputs = entry.chip.outputs.as_slice();
     if count_bits(outputs) < count_bits(inputs) {
-        let mut hops = hops;
-        let pairs = turned_pairs(alloc, &mut hops, outputs, inputs)?;
-        let leaving = Leaving::of(alloc, hops.as_slice())?;
+        let mut graph = graph;
+        let pairs = turned_pairs(alloc, &mut graph, outputs, inputs)?;
+        let doors = Doors::of(alloc, graph.as_slice())?;
         return Ok(Known {
-            hops,
-            leaving,
+            graph,
+            doors,
             turned: true,
             pairs,
         });
     }
-    let list = hops.as_slice();
-    let leaving = Leaving::of(alloc, list)?;
-    let pairs = pairs_of(alloc, list, &leaving, inputs, outputs)?;
+    let list = graph.as_slice();
+    let doors = Doors::of(alloc, list)?;
+    let pairs = pairs_of(alloc, list, &doors, inputs, outputs)?;
     Ok(Known {
-        hops,
-        leaving,
+        graph,
+        doors,
         turned: false,
         pairs,
     })

@@ -1,14 +1,15 @@
 //! Which bits of some pins lead to which bits of others. A search goes out from each bit of the ones, and takes time by what it reaches.
 
-ghost use Rattle.std.specs.Prelude.{◌≡◌, ℕ, true, List, [], OnOk, IfOk, length};
+ghost use Rattle.std.specs.Prelude.{◌≡◌, ℕ, true, List, [], OnOk, IfOk};
 ghost use Rattle.hdl_plans.specs.Loops.{bit_at};
 ghost use Rattle.hdl_plans.specs.Ways.{Way, HasBit};
 ghost use Rattle.hdl_loops.specs.Inner.Hops.{bit, HasHop};
-ghost use Rattle.hdl_loops.specs.Inner.Leaving.{IsLinked};
+ghost use Rattle.hdl_loops.specs.Inner.Bundles.{AreDoors, hops_in};
 ghost use Rattle.hdl_loops.specs.Inner.Pairs.{has_pair, has_name, AreWays, KeepsPairs, KeepsNames, IsOnlyMore, PinLeads, BitLeads};
 
-use crate::hops::{BitOf, Hop};
-use crate::leaving::Leaving;
+use crate::bundle::Bundle;
+use crate::doors::Doors;
+use crate::hops::BitOf;
 use crate::tree::{Node, Tree};
 use hdl_tree::Pin;
 use indexmap::IndexSet;
@@ -53,19 +54,19 @@ fn add_pair<'a>(
 /// Adds the pairs of a bit and what it leads to.
 fn add_bit<'a>(
     alloc: Global,
-    hops: &[Hop<'a>],
-    leaving: &Leaving<'a>,
+    graph: &[Bundle<'a>],
+    doors: &Doors<'a>,
     from: BitOf<'a>,
     ends: &PinNames<'a>,
     pairs: &mut IndexSet<Pair<'a>>,
 ) -> Result<(), AllocError>
-    requires linked { IsLinked hops.now leaving.now (length hops.now) }
-    requires right { AreWays hops.now pairs.old.keys }
-    ensures right { OnOk result (AreWays hops.now pairs.new.keys) }
+    requires linked { AreDoors graph.now doors.now }
+    requires right { AreWays (hops_in graph.now) pairs.old.keys }
+    ensures right { OnOk result (AreWays (hops_in graph.now) pairs.new.keys) }
     ensures kept { OnOk result (KeepsPairs pairs.old.keys pairs.new.keys) }
-    ensures there { OnOk result (BitLeads hops.now ends.now pairs.new.keys (bit from.entry)) }
+    ensures there { OnOk result (BitLeads (hops_in graph.now) ends.now pairs.new.keys (bit from.entry)) }
 {
-    let tree = Tree::of(alloc, hops, leaving, from)?;
+    let tree = Tree::of(alloc, graph, doors, from)?;
     let nodes = tree.reached();
     for node in nodes {
         add_pair(ends, from, node, pairs)?;
@@ -76,17 +77,17 @@ fn add_bit<'a>(
 /// Adds the pairs of the bits of a pin and what they lead to.
 fn add_pin<'a>(
     alloc: Global,
-    hops: &[Hop<'a>],
-    leaving: &Leaving<'a>,
+    graph: &[Bundle<'a>],
+    doors: &Doors<'a>,
     pin: &'a Pin,
     ends: &PinNames<'a>,
     pairs: &mut IndexSet<Pair<'a>>,
 ) -> Result<(), AllocError>
-    requires linked { IsLinked hops.now leaving.now (length hops.now) }
-    requires right { AreWays hops.now pairs.old.keys }
-    ensures right { OnOk result (AreWays hops.now pairs.new.keys) }
+    requires linked { AreDoors graph.now doors.now }
+    requires right { AreWays (hops_in graph.now) pairs.old.keys }
+    ensures right { OnOk result (AreWays (hops_in graph.now) pairs.new.keys) }
     ensures kept { OnOk result (KeepsPairs pairs.old.keys pairs.new.keys) }
-    ensures there { OnOk result (PinLeads hops.now ends.now pairs.new.keys pin.now) }
+    ensures there { OnOk result (PinLeads (hops_in graph.now) ends.now pairs.new.keys pin.now) }
 {
     let width = u32::from(pin.width.unwrap_or(1));
     for b in 0..width {
@@ -94,7 +95,7 @@ fn add_pin<'a>(
             name: pin.name.as_bytes(),
             bit: b,
         };
-        add_bit(alloc, hops, leaving, from, ends, pairs)?;
+        add_bit(alloc, graph, doors, from, ends, pairs)?;
     }
     Ok(())
 }
@@ -126,21 +127,21 @@ fn ends_of<'a>(alloc: Global, pins: &'a [Pin]) -> Result<PinNames<'a>, AllocErro
 /// The pairs of a bit of the first pins and a bit of the second to which it leads.
 pub(crate) fn pairs_of<'a>(
     alloc: Global,
-    hops: &[Hop<'a>],
-    leaving: &Leaving<'a>,
+    graph: &[Bundle<'a>],
+    doors: &Doors<'a>,
     first: &'a [Pin],
     second: &'a [Pin],
 ) -> Result<IndexSet<Pair<'a>>, AllocError>
-    requires linked { IsLinked hops.now leaving.now (length hops.now) }
-    ensures right { IfOk result (λ s. AreWays hops.now s.keys) }
+    requires linked { AreDoors graph.now doors.now }
+    ensures right { IfOk result (λ s. AreWays (hops_in graph.now) s.keys) }
     ensures there { IfOk result (λ s. (n m : List ℕ) (b k : ℕ) → HasBit first.now n b
-        → HasBit second.now m k → Way (HasHop hops.now) (bit_at [] n b) (bit_at [] m k)
+        → HasBit second.now m k → Way (HasHop (hops_in graph.now)) (bit_at [] n b) (bit_at [] m k)
         → has_pair s.keys (bit_at [] n b) (bit_at [] m k) ≡ true) }
 {
     let ends = ends_of(alloc, second)?;
     let mut pairs = IndexSet::new(alloc);
     for pin in first {
-        add_pin(alloc, hops, leaving, pin, &ends, &mut pairs)?;
+        add_pin(alloc, graph, doors, pin, &ends, &mut pairs)?;
     }
     Ok(pairs)
 }

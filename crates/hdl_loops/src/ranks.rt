@@ -1,10 +1,13 @@
 //! What shows that there is no circle.
 
-ghost use Rattle.std.specs.Prelude.{◌≡◌, true};
+ghost use Rattle.std.specs.Prelude.{◌≡◌, true, MatchOption};
 ghost use Rattle.hdl_loops.specs.Inner.Hops.{bit};
-ghost use Rattle.hdl_loops.specs.Inner.Ranked.{rank_at, HopRises, AllRise};
+ghost use Rattle.hdl_loops.specs.Inner.Bundles.{hops_in};
+ghost use Rattle.hdl_loops.specs.Inner.Ranked.{rank_at, AreUpTo, AreAbove, BundleRises, AllRise};
 
-use crate::hops::{BitOf, Hop};
+use crate::bundle::Bundle;
+use crate::hops::BitOf;
+use crate::joint::Joint;
 use indexmap::IndexMap;
 use std::alloc::{AllocError, Global};
 
@@ -34,22 +37,53 @@ impl<'a> Ranks<'a> {
         self.ranks.get(of).copied()
     }
 
-    /// Whether the ranks rise along a hop.
-    fn rise(&self, hop: &Hop<'a>) -> bool
-        ensures { result ≡ true → HopRises self.now hop.now }
+    /// A rank that none of the bits outside these joints is above, if each has one.
+    fn highest(&self, joints: &[Joint<'a>]) -> Option<u32>
+        ensures { MatchOption result (Unit {0}) (AreUpTo self.now joints.now) }
     {
-        match (self.rank(&hop.from), self.rank(&hop.to)) {
-            (Some(a), Some(b)) => a < b,
-            _ => false,
+        let mut highest = 0;
+        for joint in joints {
+            let rank = self.rank(&joint.net)?;
+            if highest < rank {
+                highest = rank;
+            }
+        }
+        Some(highest)
+    }
+
+    /// Whether the bits outside these joints are all above a rank.
+    fn are_above(&self, rank: u32, joints: &[Joint<'a>]) -> bool
+        ensures { result ≡ true → AreAbove self.now joints.now rank }
+    {
+        for joint in joints {
+            match self.rank(&joint.net) {
+                None => return false,
+                Some(other) => {
+                    if other <= rank {
+                        return false;
+                    }
+                }
+            }
+        }
+        true
+    }
+
+    /// Whether the ranks rise along each hop of a bundle.
+    fn rise(&self, bundle: &Bundle<'a>) -> bool
+        ensures { result ≡ true → BundleRises self.now bundle.now }
+    {
+        match self.highest(bundle.enters.as_slice()) {
+            None => false,
+            Some(highest) => self.are_above(highest, bundle.leaves.as_slice()),
         }
     }
 
     /// Whether the ranks rise along each hop.
-    pub(crate) fn all_rise(&self, hops: &[Hop<'a>]) -> bool
-        ensures { result ≡ true → AllRise self.now hops.now }
+    pub(crate) fn all_rise(&self, graph: &[Bundle<'a>]) -> bool
+        ensures { result ≡ true → AllRise self.now (hops_in graph.now) }
     {
-        for hop in hops {
-            if !self.rise(hop) {
+        for bundle in graph {
+            if !self.rise(bundle) {
                 return false;
             }
         }

@@ -1,15 +1,18 @@
 //! What is reached from a bit, and by which ways.
 
-ghost use Rattle.std.specs.Prelude.{◌≡◌, ◌<◌, false, List, OnOk, IfOk, MatchOption, Some, length, reverse, slice_get};
+ghost use Rattle.std.specs.Prelude.{◌≡◌, ◌<◌, false, true, List, OnOk, IfOk, MatchOption, Some, length, reverse, slice_get};
+ghost use Rattle.hdl_loops.specs.declared.bundle.Bundle.{Bundle};
 ghost use Rattle.hdl_loops.specs.declared.hops.Hop.{Hop};
 ghost use Rattle.hdl_loops.specs.declared.tree.Node.{Node};
 ghost use Rattle.hdl_loops.specs.Inner.Hops.{bit, IsWay};
-ghost use Rattle.hdl_loops.specs.Inner.Leaving.{IsLinked};
-ghost use Rattle.hdl_loops.specs.Inner.Trees.{is_marked, IsReached, Comes, IsTree, KeepsMarks, IsFollowed, IsLeft, LeftBefore, IsClosed, IsGrown, Adds};
+ghost use Rattle.hdl_loops.specs.Inner.Bundles.{AreDoors, hops_in, Opens};
+ghost use Rattle.hdl_loops.specs.Inner.Trees.{is_marked, IsReached, Comes, IsTree, KeepsMarks, IsLeft, LeftBefore, IsClosed, IsGrown, Adds, KeepsPassed, LeadsOut, ArePassed};
+ghost use Rattle.hdl_loops.specs.Inner.Ties.{In};
 
+use crate::bundle::{Bundle, hop_by};
+use crate::doors::{Door, Doors};
 use crate::hops::{BitOf, Hop};
-use crate::leaving::Leaving;
-use indexmap::IndexMap;
+use indexmap::{IndexMap, IndexSet};
 use std::alloc::{AllocError, Global};
 
 /// A hop that reaches a bit, and the place of the one before it, if it does not begin at the root.
@@ -20,11 +23,12 @@ pub struct Node<'a> {
 }
 
 /// The bits that hops reach from a root, and for each the place of the hop that reached it first. The root is reached only by a way round.
-/// What is reached first is left first, so that no hop cuts a way short.
+/// What is reached first is left first, so that no hop cuts a way short. A bundle is passed once: then all that it leads to is reached.
 pub struct Tree<'a> {
     root: BitOf<'a>,
     places: IndexMap<BitOf<'a>, usize>,
     nodes: Vec<Node<'a>>,
+    passed: IndexSet<usize>,
 }
 
 // By hand, so that whoever drops one calls this.
@@ -34,6 +38,7 @@ impl Drop for Tree<'_> {
             root: _,
             places: _,
             nodes: _,
+            passed: _,
         } = self;
     }
 }
@@ -74,17 +79,15 @@ impl<'a> Tree<'a> {
         Ok(())
     }
 
-    /// Follows hop k, if it goes on from what is reached to what is not.
-    fn follow(&mut self, hops: &[Hop<'a>], k: usize) -> Result<(), AllocError>
-        requires there { k < length hops.now }
-        requires right { IsTree hops.now self.old }
-        requires before { (h : Hop) → slice_get hops.now k ≡ Some h
-            → LeftBefore hops.now self.old (bit h.from) }
-        ensures right { OnOk result (IsTree hops.now self.new) }
+    /// Follows a hop, if it goes on from what is reached to what is not.
+    fn follow(&mut self, hop: Hop<'a>) -> Result<(), AllocError>
+        ensures right { OnOk result ((hops : List Hop) → In hop.entry hops → IsTree hops self.old
+            → LeftBefore hops self.old (bit hop.entry.from) → IsTree hops self.new) }
         ensures kept { OnOk result (KeepsMarks self.old self.new) }
-        ensures followed { OnOk result (IsFollowed hops.now k self.old self.new) }
+        ensures passed { OnOk result (KeepsPassed self.old self.new) }
+        ensures followed { OnOk result
+            (IsReached self.old (bit hop.entry.from) → is_marked self.new (bit hop.entry.to) ≡ true) }
     {
-        let hop = hops[k];
         if self.has(&hop.to) {
             return Ok(());
         }
@@ -97,43 +100,93 @@ impl<'a> Tree<'a> {
         }
     }
 
+    /// Follows the hops of a bundle that go in by this door, which leaves a bit that is reached.
+    fn pass(&mut self, graph: &[Bundle<'a>], door: Door, from: &BitOf<'a>) -> Result<(), AllocError>
+        requires opens { Opens graph.now door (bit from.now) }
+        requires right { IsTree (hops_in graph.now) self.old }
+        requires reached { IsReached self.old (bit from.now) }
+        requires before { LeftBefore (hops_in graph.now) self.old (bit from.now) }
+        ensures right { OnOk result (IsTree (hops_in graph.now) self.new) }
+        ensures kept { OnOk result (KeepsMarks self.old self.new) }
+        ensures passed { OnOk result (KeepsPassed self.old self.new) }
+        ensures there { OnOk result (LeadsOut graph.now self.new door.bundle) }
+    {
+        let bundle = &graph[door.bundle];
+        let enter = &bundle.enters[door.enter];
+        let leaves = bundle.leaves.as_slice();
+        for leave in leaves {
+            self.follow(hop_by(bundle.chip, enter, leave))?;
+        }
+        Ok(())
+    }
+
+    /// Goes in by a door, which leaves a bit that is reached, unless its bundle is passed.
+    fn go_in(
+        &mut self,
+        graph: &[Bundle<'a>],
+        door: Door,
+        from: &BitOf<'a>,
+    ) -> Result<(), AllocError>
+        requires opens { Opens graph.now door (bit from.now) }
+        requires right { IsTree (hops_in graph.now) self.old }
+        requires passed { ArePassed graph.now self.old }
+        requires reached { IsReached self.old (bit from.now) }
+        requires before { LeftBefore (hops_in graph.now) self.old (bit from.now) }
+        ensures right { OnOk result (IsTree (hops_in graph.now) self.new) }
+        ensures passed { OnOk result (ArePassed graph.now self.new) }
+        ensures kept { OnOk result (KeepsMarks self.old self.new) }
+        ensures there { OnOk result (LeadsOut graph.now self.new door.bundle) }
+    {
+        if self.passed.contains(&door.bundle) {
+            return Ok(());
+        }
+        self.pass(graph, door, from)?;
+        match self.passed.insert(door.bundle) {
+            Err(_) => Err(AllocError),
+            Ok(_) => Ok(()),
+        }
+    }
+
     /// Follows the hops that leave a bit.
     fn follow_from(
         &mut self,
-        hops: &[Hop<'a>],
-        leaving: &Leaving<'a>,
+        graph: &[Bundle<'a>],
+        doors: &Doors<'a>,
         from: &BitOf<'a>,
     ) -> Result<(), AllocError>
-        requires right { IsTree hops.now self.old }
-        requires linked { IsLinked hops.now leaving.now (length hops.now) }
+        requires right { IsTree (hops_in graph.now) self.old }
+        requires passed { ArePassed graph.now self.old }
+        requires linked { AreDoors graph.now doors.now }
         requires reached { IsReached self.old (bit from.now) }
-        requires before { LeftBefore hops.now self.old (bit from.now) }
-        ensures right { OnOk result (IsTree hops.now self.new) }
+        requires before { LeftBefore (hops_in graph.now) self.old (bit from.now) }
+        ensures right { OnOk result (IsTree (hops_in graph.now) self.new) }
+        ensures passed { OnOk result (ArePassed graph.now self.new) }
         ensures kept { OnOk result (KeepsMarks self.old self.new) }
-        ensures left { OnOk result (IsLeft hops.now self.new (bit from.now)) }
+        ensures left { OnOk result (IsLeft (hops_in graph.now) self.new (bit from.now)) }
     {
-        let mut at = leaving.last(from);
+        let mut at = doors.leaving.last(from);
         while let Some(k) = at {
-            self.follow(hops, k)?;
-            at = leaving.before(k);
+            self.go_in(graph, doors.doors[k], from)?;
+            at = doors.leaving.before(k);
         }
         Ok(())
     }
 
     /// Follows the hops that leave the root, and then those that leave each bit that is reached.
-    fn grow(&mut self, hops: &[Hop<'a>], leaving: &Leaving<'a>) -> Result<(), AllocError>
-        requires right { IsTree hops.now self.old }
-        requires linked { IsLinked hops.now leaving.now (length hops.now) }
-        ensures right { OnOk result (IsTree hops.now self.new) }
+    fn grow(&mut self, graph: &[Bundle<'a>], doors: &Doors<'a>) -> Result<(), AllocError>
+        requires right { IsTree (hops_in graph.now) self.old }
+        requires passed { ArePassed graph.now self.old }
+        requires linked { AreDoors graph.now doors.now }
+        ensures right { OnOk result (IsTree (hops_in graph.now) self.new) }
         ensures same { OnOk result (bit self.new.root ≡ bit self.old.root) }
-        ensures closed { OnOk result (IsClosed hops.now self.new) }
+        ensures closed { OnOk result (IsClosed (hops_in graph.now) self.new) }
     {
         let root = self.root;
-        self.follow_from(hops, leaving, &root)?;
+        self.follow_from(graph, doors, &root)?;
         let mut k = 0;
         while k < self.nodes.len() {
             let at = self.nodes[k].hop.to;
-            self.follow_from(hops, leaving, &at)?;
+            self.follow_from(graph, doors, &at)?;
             k += 1;
         }
         Ok(())
@@ -141,27 +194,29 @@ impl<'a> Tree<'a> {
 
     fn new(alloc: Global, root: BitOf<'a>) -> Tree<'a>
         ensures right { (hops : List Hop) → IsTree hops result }
+        ensures passed { (graph : List Bundle) → ArePassed graph result }
         ensures root { result.root ≡ root.entry }
     {
         Tree {
             root,
             places: IndexMap::new(alloc),
             nodes: Vec::new(alloc),
+            passed: IndexSet::new(alloc),
         }
     }
 
     /// All that hops reach from a bit.
     pub(crate) fn of(
         alloc: Global,
-        hops: &[Hop<'a>],
-        leaving: &Leaving<'a>,
+        graph: &[Bundle<'a>],
+        doors: &Doors<'a>,
         root: BitOf<'a>,
     ) -> Result<Tree<'a>, AllocError>
-        requires { IsLinked hops.now leaving.now (length hops.now) }
-        ensures { IfOk result (λ tree. IsGrown hops.now tree (bit root.entry)) }
+        requires { AreDoors graph.now doors.now }
+        ensures { IfOk result (λ tree. IsGrown (hops_in graph.now) tree (bit root.entry)) }
     {
         let mut tree = Tree::new(alloc, root);
-        tree.grow(hops, leaving)?;
+        tree.grow(graph, doors)?;
         Ok(tree)
     }
 
@@ -173,11 +228,16 @@ impl<'a> Tree<'a> {
     }
 
     /// The hops back from the one in this place to the root.
-    fn back(&self, alloc: Global, hops: &[Hop<'a>], last: usize) -> Result<Vec<Hop<'a>>, AllocError>
-        requires right { IsTree hops.now self.now }
+    fn back(
+        &self,
+        alloc: Global,
+        graph: &[Bundle<'a>],
+        last: usize,
+    ) -> Result<Vec<Hop<'a>>, AllocError>
+        requires right { IsTree (hops_in graph.now) self.now }
         requires there { last < length self.now.nodes.items }
         ensures { IfOk result (λ v. (node : Node) → slice_get self.now.nodes.items last ≡ Some node
-            → IsWay hops.now (bit self.now.root) (reverse v.items) (bit node.hop.to)) }
+            → IsWay (hops_in graph.now) (bit self.now.root) (reverse v.items) (bit node.hop.to)) }
     {
         let nodes = self.nodes.as_slice();
         let mut way = Vec::new(alloc);
@@ -194,17 +254,17 @@ impl<'a> Tree<'a> {
     pub(crate) fn way_to(
         &self,
         alloc: Global,
-        hops: &[Hop<'a>],
+        graph: &[Bundle<'a>],
         to: &BitOf<'a>,
     ) -> Result<Option<Vec<Hop<'a>>>, AllocError>
-        requires { IsTree hops.now self.now }
+        requires { IsTree (hops_in graph.now) self.now }
         ensures { IfOk result (λ r. MatchOption r (is_marked self.now (bit to.now) ≡ false)
-            (λ v. IsWay hops.now (bit self.now.root) v.items (bit to.now))) }
+            (λ v. IsWay (hops_in graph.now) (bit self.now.root) v.items (bit to.now))) }
     {
         match self.places.get(to) {
             None => Ok(None),
             Some(place) => {
-                let mut way = self.back(alloc, hops, *place)?;
+                let mut way = self.back(alloc, graph, *place)?;
                 way.reverse();
                 Ok(Some(way))
             }

@@ -24,10 +24,6 @@ is_bit x v = bytes_eq x.name v.name.now && nat_eq x.bit v.bit
 abbrev pub HasHop : List Hop → BitAt → BitAt → Type 0
 HasHop hs x y = (p : ℕ) × (h : Hop) × (slice_get hs p ≡ Some h) × (bit h.from ≡ x) × (bit h.to ≡ y)
 
--- the hop the other way
-abbrev pub turn : Hop → Hop
-turn h = record { from = h.to; chip = h.chip; through = h.through; to = h.from }
-
 -- hops that lead, one after another, from one bit to another
 abbrev pub Linked : BitAt → List Hop → BitAt → Type 0
 Linked x [] y = x ≡ y

@@ -1,5 +1,5 @@
 -- What is known of chips.
-use Rattle.std.specs.Prelude.{◌≡◌, ℕ, zero, suc, ◌&&◌, ◌⊎◌, Bool, true, false, not, List, [], ◌∷◌, length, map, Option, Some, None, slice_get, codes, if◌then◌else◌}
+use Rattle.std.specs.Prelude.{◌≡◌, ℕ, zero, suc, ◌&&◌, ◌⊎◌, Bool, true, false, not, List, [], ◌∷◌, map, Option, Some, None, slice_get, codes, if◌then◌else◌}
 use Rattle.std.specs.Str.{bytes_eq}
 use Rattle.hdl_tree.specs.declared.tree.Part.{Part}
 use Rattle.hdl_tree.specs.declared.library.Entry.{Entry}
@@ -11,14 +11,24 @@ use Rattle.hdl_check.specs.Inner.Progress.{numbered_entries, ArePorts}
 use Rattle.hdl_plans.specs.Loops.{BitAt, bit_at, reaches_out}
 use Rattle.hdl_plans.specs.Ways.{Way, Depends, Joined, OwnCircle, JointsFit, TreeFits}
 use Rattle.hdl_loops.specs.Inner.Hops.{bit, input_of, output_of, HasHop, AllIn, IsDirect, IsWay}
-use Rattle.hdl_loops.specs.Inner.Ties.{In, Tie, ties_in, gather}
+use Rattle.hdl_loops.specs.Inner.Ties.{In, Tie, tie_of, ties_in, gather}
 use Rattle.hdl_loops.specs.Inner.Report.{HasConnection}
-use Rattle.hdl_loops.specs.Inner.Leaving.{IsLinked}
+use Rattle.hdl_loops.specs.Inner.Leaving.{latest_from, IsLinked}
+use Rattle.hdl_loops.specs.Inner.Bundles.{hops_in, AreDoors}
 use Rattle.hdl_loops.specs.Inner.Pairs.{has_pair}
+use Rattle.hdl_loops.specs.declared.hops.BitOf.{BitOf}
 use Rattle.hdl_loops.specs.declared.hops.Hop.{Hop}
+use Rattle.hdl_loops.specs.declared.joint.Joint.{Joint}
+use Rattle.hdl_loops.specs.declared.pins.Sides.{Sides}
+use Rattle.hdl_loops.specs.declared.graph.By.{By}
+use Rattle.hdl_loops.specs.declared.graph.By.TheVariants as ways
 use Rattle.hdl_loops.specs.declared.known.Known.{Known}
 use Rattle.hdl_loops.specs.declared.pairs.Pair.{Pair}
 use Rattle.hdl_loops.specs.declared.places.Places.{Places}
+
+-- the hops of what is known
+abbrev pub hops_of : Known → List Hop
+hops_of inside = hops_in inside.graph.items
 
 -- ---- which bits of a chip lead to which
 
@@ -94,9 +104,26 @@ pub record AddsLeaps (old new : List Hop) (leaps : List Leap) : Type 0 where
   pub right : AddsOnly old new leaps
   pub there : (leap : Leap) → In leap leaps → In leap (leaps_of new)
 
--- the hops by joints of these two bits are there
-abbrev pub HasLeaps : Chips → List (Option Known) → ℕ → List Tie → List Hop → BitAt → BitAt → Type 0
-HasLeaps chips known k ties hs x y = (a b : Tie) (leap : Leap) → In a ties → In b ties → a.pin ≡ x → b.pin ≡ y → In leap (leap_by chips known k a b) → In leap (leaps_of hs)
+-- ---- the joints that lead to one that goes out
+
+-- a way leads in by one joint and out by another
+abbrev pub Leads : Chips → List (Option Known) → ℕ → Joint → Joint → Type 0
+Leads chips known k a b = leads_through chips known k (tie_of a) (tie_of b) ≡ true
+
+-- those of some joints are added from which a way leads out by this one
+pub record AddsEnters (chips : Chips) (known : List (Option Known)) (k : ℕ) (some : List Joint) (b : Joint) (old new : List Joint) : Type 0 where
+  pub kept : (a : Joint) → In a old → In a new
+  pub only : (a : Joint) → In a new → (In a old) ⊎ (In a some × Leads chips known k a b)
+  pub all : (a : Joint) → In a some → Leads chips known k a b → In a new
+
+-- these are those of all joints
+pub record AreEnters (chips : Chips) (known : List (Option Known)) (k : ℕ) (joints : List Joint) (b : Joint) (enters : List Joint) : Type 0 where
+  pub only : (a : Joint) → In a enters → In a joints × Leads chips known k a b
+  pub all : (a : Joint) → In a joints → Leads chips known k a b → In a enters
+
+-- where place k is the last of its bit among the joints that go out, all hops out by joints of the bit are there
+abbrev pub BundlesLast : Chips → List (Option Known) → ℕ → Sides → List Hop → ℕ → Type 0
+BundlesLast chips known place sides hs k = (a b c : Joint) (leap : Leap) → slice_get sides.leaves.items k ≡ Some c → latest_from sides.leaves_at (bit c.pin) ≡ Some k → In a sides.enters.items → In b sides.leaves.items → bit b.pin ≡ bit c.pin → In leap (leap_by chips known place (tie_of a) (tie_of b)) → In leap (leaps_of hs)
 
 -- the pair of an input bit and an output bit
 abbrev pub through_pair : Bool → Pair → Pair
@@ -107,6 +134,15 @@ pub record KnownAs (chips : Chips) (known : List (Option Known)) (k : ℕ) (insi
   pub noted : slice_get known k ≡ Some (Some inside)
   pub no_end : (chip : Entry) → slice_get chips.entries k ≡ Some chip
       → end_of chips.memories chip ≡ None
+
+-- the output bits of its pairs
+abbrev pub outputs_of : Known → List BitOf
+outputs_of inside = map (λ (p : Pair). (through_pair inside.turned p).to) inside.pairs.keys
+
+-- by the pairs of chip k, linked by their output bits, or by a look at all joints
+abbrev pub IsBy : Chips → List (Option Known) → ℕ → By → Type 0
+IsBy chips known k (ways.Pairs inside outputs) = KnownAs chips known k inside.now × IsLinked (outputs_of inside.now) outputs
+IsBy chips known k ways.Joints = Unit {0}
 
 abbrev pub next_place : Option ℕ → Option ℕ
 next_place None = None
@@ -179,14 +215,14 @@ TreeClear chips top = (path : List ℕ) (chip : Entry) → chip_at chips top pat
 
 -- what is known of a chip that is no end
 pub record IsRight (chips : Chips) (known : List (Option Known)) (chip : Entry) (inside : Known) : Type 0 where
-  pub hops : AreHops chips known chip inside.hops.items
-  pub linked : IsLinked inside.hops.items inside.leaving (length inside.hops.items)
+  pub hops : AreHops chips known chip (hops_of inside)
+  pub linked : AreDoors inside.graph.items inside.doors
   pub sound : (n m : List ℕ) (b k : ℕ) → leads inside (bit_at [] n b) (bit_at [] m k) ≡ true
-      → Way (HasHop inside.hops.items) (bit_at [] n b) (bit_at [] m k)
+      → Way (HasHop (hops_of inside)) (bit_at [] n b) (bit_at [] m k)
   pub covers : TreeFits chips chip → (n m : List ℕ) (b k : ℕ) → Depends chips chip n b m k
       → leads inside (bit_at [] n b) (bit_at [] m k) ≡ true
   pub clear : TreeFits chips chip → TreeClear chips chip
-  pub full : TreeFits chips chip → IsFull chips chip inside.hops.items
+  pub full : TreeFits chips chip → IsFull chips chip (hops_of inside)
 
 abbrev pub AreKnown : Chips → List (Option Known) → Type 0
 AreKnown chips known = (k : ℕ) (chip : Entry) (inside : Known) → slice_get chips.entries k ≡ Some chip → slice_get known k ≡ Some (Some inside) → IsRight chips known chip inside
@@ -234,11 +270,11 @@ NestsAt d chips k = (chip : Entry) → slice_get chips.entries k ≡ Some chip �
 
 -- ways are found in what is known of the chip in this place
 abbrev pub HasWays : List (Option Known) → ℕ → Type 0
-HasWays known k = (inside : Known) → slice_get known k ≡ Some (Some inside) → IsLinked inside.hops.items inside.leaving (length inside.hops.items) ×
-    ((n m : List ℕ) (b l : ℕ) → leads inside (bit_at [] n b) (bit_at [] m l) ≡ true → Way (HasHop inside.hops.items) (bit_at [] n b) (bit_at [] m l))
+HasWays known k = (inside : Known) → slice_get known k ≡ Some (Some inside) → AreDoors inside.graph.items inside.doors ×
+    ((n m : List ℕ) (b l : ℕ) → leads inside (bit_at [] n b) (bit_at [] m l) ≡ true → Way (HasHop (hops_of inside)) (bit_at [] n b) (bit_at [] m l))
 
 -- hops of what is known, which are a way between these bits
 abbrev pub IsWayIn : Option (Option Known) → BitAt → List Hop → BitAt → Type 0
 IsWayIn None x ws y = ⊥
 IsWayIn (Some None) x ws y = ⊥
-IsWayIn (Some (Some inside)) x ws y = IsWay inside.hops.items x ws y
+IsWayIn (Some (Some inside)) x ws y = IsWay (hops_of inside) x ws y

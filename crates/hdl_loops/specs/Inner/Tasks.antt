@@ -4,7 +4,7 @@ use Rattle.hdl_tree.specs.declared.library.Entry.{Entry}
 use Rattle.hdl_tree.specs.Chips.{Chips}
 use Rattle.hdl_plans.specs.Loops.{IsLoop}
 use Rattle.hdl_loops.specs.Inner.Hops.{input_of, output_of}
-use Rattle.hdl_loops.specs.Inner.Knowing.{crosses, NestsAt}
+use Rattle.hdl_loops.specs.Inner.Knowing.{crosses, hops_of, NestsAt}
 use Rattle.hdl_loops.specs.Inner.Stacked.{power}
 use Rattle.hdl_loops.specs.Inner.Report.{Trip, TripAmong, add_name, add_names}
 use Rattle.hdl_loops.specs.declared.hops.Hop.{Hop}
@@ -75,7 +75,7 @@ twice (suc n) = suc (suc (twice n))
 
 abbrev pub hop_count : Option Known → ℕ
 hop_count None = 0
-hop_count (Some inside) = length inside.hops.items
+hop_count (Some inside) = length (hops_of inside)
 
 -- more than twice the hops of any chip
 abbrev pub room : List (Option Known) → ℕ

@@ -1,5 +1,5 @@
 -- What the connections of a part join.
-use Rattle.std.specs.Prelude.{◌≡◌, ℕ, zero, suc, ◌+◌, ◌⊎◌, Bool, List, [], ◌∷◌, ◌++◌, map}
+use Rattle.std.specs.Prelude.{◌≡◌, ℕ, zero, suc, ◌+◌, ◌⊎◌, Bool, true, false, List, [], ◌∷◌, ◌++◌, map}
 use Rattle.hdl_tree.specs.declared.tree.Selection.{Selection}
 use Rattle.hdl_tree.specs.declared.tree.Source.{Source}
 use Rattle.hdl_tree.specs.declared.tree.Source.TheVariants as source
@@ -10,7 +10,9 @@ use Rattle.hdl_tree.specs.Behaviour.{width_of}
 use Rattle.hdl_plans.specs.Plans.{is_input}
 use Rattle.hdl_plans.specs.Loops.{BitAt, bit_at}
 use Rattle.hdl_loops.specs.Inner.Hops.{bit}
-use Rattle.hdl_loops.specs.declared.hops.Hop.{Hop}
+use Rattle.hdl_loops.specs.Inner.Leaving.{IsLinked}
+use Rattle.hdl_loops.specs.declared.pins.Sides.{Sides}
+use Rattle.hdl_loops.specs.declared.hops.BitOf.{BitOf}
 use Rattle.hdl_loops.specs.declared.joint.Joint.{Joint}
 
 -- a bit of a net or pin, and the bit of a pin of a part that it is joined to, an input or none
@@ -25,9 +27,9 @@ tie_of j = record { input = j.input; net = bit j.net; pin = bit j.pin }
 abbrev pub ties_of : List Joint → List Tie
 ties_of js = map tie_of js
 
--- a joint as a hop, from the bit of the pin to the bit of the net
-abbrev pub pin_hop : Joint → Hop
-pin_hop j = record { from = j.pin; chip = 0; through = record { input = j.pin.name; bit = j.pin.bit; output = j.pin.name; out = j.pin.bit }; to = j.net }
+-- the bits of pins of joints
+abbrev pub pins_of : List Joint → List BitOf
+pins_of js = map (λ (j : Joint). j.pin) js
 
 -- bit k of a connection
 abbrev pub tie : Selection → Selection → Bool → ℕ → Tie
@@ -61,3 +63,19 @@ abbrev pub gather_first : {A B : Type 0} → (A → List B) → ℕ → List A �
 gather_first f zero xs = []
 gather_first f (suc n) [] = []
 gather_first f (suc n) (x ∷ xs) = f x ++ gather_first f n xs
+
+-- ---- the sides of a part
+
+-- these are the joints that go in, or those that go out
+pub record AreOn (joints side : List Joint) (input : Bool) : Type 0 where
+  pub only : (j : Joint) → In j side → In j joints × (j.input ≡ input)
+  pub all : (j : Joint) → In j joints → j.input ≡ input → In j side
+
+pub record AreSides (joints : List Joint) (sides : Sides) : Type 0 where
+  pub enters : AreOn joints sides.enters.items true
+  pub leaves : AreOn joints sides.leaves.items false
+  pub enters_at : IsLinked (pins_of sides.enters.items) sides.enters_at
+  pub leaves_at : IsLinked (pins_of sides.leaves.items) sides.leaves_at
+
+abbrev pub HasSides : Sides → Type 0
+HasSides sides = (joints : List Joint) × AreSides joints sides

@@ -1,8 +1,12 @@
 -- What is reached from a bit, and by which ways.
-use Rattle.std.specs.Prelude.{◌≡◌, ℕ, suc, ◌+◌, ◌<◌, ◌≤◌, ◌⊎◌, Bool, true, List, [], ◌∷◌, ◌++◌, length, Option, Some, None, is_some, slice_get, if◌then◌else◌}
+use Rattle.std.specs.Prelude.{◌≡◌, ℕ, suc, ◌+◌, ◌<◌, ◌≤◌, ◌⊎◌, Bool, true, List, [], ◌∷◌, ◌++◌, length, Option, Some, None, is_some, nat_eq, slice_get, if◌then◌else◌}
 use Rattle.std.specs.Map.{lookup}
+use Rattle.std.specs.List.{list_any}
 use Rattle.hdl_plans.specs.Loops.{BitAt, bit_at}
 use Rattle.hdl_loops.specs.Inner.Hops.{bit, is_bit, Linked, AllIn, IsDirect}
+use Rattle.hdl_loops.specs.Inner.Ties.{In}
+use Rattle.hdl_loops.specs.declared.joint.Joint.{Joint}
+use Rattle.hdl_loops.specs.declared.bundle.Bundle.{Bundle}
 use Rattle.hdl_loops.specs.declared.hops.Hop.{Hop}
 use Rattle.hdl_loops.specs.declared.tree.Node.{Node}
 use Rattle.hdl_loops.specs.declared.tree.Tree.{Tree}
@@ -73,10 +77,6 @@ pub record KeepsMarks (old new : Tree) : Type 0 where
   pub marks : (n : List ℕ) (b : ℕ) → is_marked old (bit_at [] n b) ≡ true
       → is_marked new (bit_at [] n b) ≡ true
 
--- where hop k leads is reached, if it goes on from what was
-abbrev pub IsFollowed : List Hop → ℕ → Tree → Tree → Type 0
-IsFollowed hs k old new = (h : Hop) → slice_get hs k ≡ Some h → IsReached old (bit h.from) → is_marked new (bit h.to) ≡ true
-
 -- where the hops that leave a bit lead is reached
 abbrev pub IsLeft : List Hop → Tree → BitAt → Type 0
 IsLeft hs t x = (p : ℕ) (h : Hop) → slice_get hs p ≡ Some h → bit h.from ≡ x → is_marked t (bit h.to) ≡ true
@@ -96,6 +96,19 @@ pub record Adds (old new : Tree) (hop : Hop) (before : Option ℕ) : Type 0 wher
   pub root : new.root ≡ old.root
   pub nodes : new.nodes.items ≡ old.nodes.items ++ record { hop = hop; before = before } ∷ []
   pub places : new.places.entries ≡ old.places.entries ++ (hop.to, length old.nodes.items) ∷ []
+  pub passed : new.passed.keys ≡ old.passed.keys
+
+-- the same bundles are passed
+abbrev pub KeepsPassed : Tree → Tree → Type 0
+KeepsPassed old new = new.passed.keys ≡ old.passed.keys
+
+-- where the hops of bundle g lead is reached
+abbrev pub LeadsOut : List Bundle → Tree → ℕ → Type 0
+LeadsOut bs t g = (b : Bundle) (a : Joint) → slice_get bs g ≡ Some b → In a b.leaves.items → is_marked t (bit a.net) ≡ true
+
+-- and so for those that are passed
+abbrev pub ArePassed : List Bundle → Tree → Type 0
+ArePassed bs t = (g : ℕ) → list_any (nat_eq g) t.passed.keys ≡ true → LeadsOut bs t g
 
 -- no hop leads out of what is reached
 abbrev pub IsClosed : List Hop → Tree → Type 0

@@ -1,4 +1,4 @@
-use Rattle.std.proofs.Common.{◌≡◌, ℕ, List, Option, Some, None, length, refl, sym, subst}
+use Rattle.std.proofs.Common.{◌≡◌, ℕ, List, Option, Some, None, length, refl, sym, ap, subst}
 use Rattle.std.specs.Prelude.{MatchOption, slice_get}
 use Rattle.std.specs.declared.vec.Vec.{Vec}
 use Rattle.std.specs.declared.alloc.Global.{Global}
@@ -11,6 +11,7 @@ use Rattle.hdl_check.specs.Whole.{chips_in}
 use Rattle.hdl_plans.specs.Loops.{IsLoop}
 use Rattle.hdl_plans.specs.Ways.{TreeFits}
 use Rattle.hdl_loops.specs.Inner.Hops.{NoRound}
+use Rattle.hdl_loops.specs.Inner.Bundles.{hops_in}
 use Rattle.hdl_loops.specs.Inner.Looked.{EndsLook}
 use Rattle.hdl_loops.specs.Inner.Ties.{gather}
 use Rattle.hdl_loops.specs.Inner.Knowing.{part_leaps, AreLeaps, AreHops, IsGraph, IsFull, TreeClear}
@@ -31,10 +32,10 @@ returns c =
     let ks = c.args.known.now in
     let own = c.index-entries-k.result in
     let there : slice_get es c.args.k ≡ Some own = slice_get_read es (length es) c.args.k own refl c.requires.there c.index-entries-k.is in
-    let hs = c.in_ok-hops.hops.items in
-    let list = c.deref.result.now in
-    let is : IsGraph chips ks own hs = subst (λ (ps : List Part). AreLeaps hs (gather (part_leaps chips ks) ps)) (c.parts_of-parts.ensures es) c.in_ok-hops.ensures in
-    let clear : NoRound list → TreeFits chips own → TreeClear chips own = λ none. seen_clear chips ks own hs (c.requires.no_end own there) is c.requires.right (c.requires.done own there) (subst NoRound c.deref.ensures.value none) in
+    let hs = hops_in c.in_ok-graph.graph.items in
+    let list = hops_in c.deref.result.now in
+    let is : IsGraph chips ks own hs = subst (λ (ps : List Part). AreLeaps hs (gather (part_leaps chips ks) ps)) (c.parts_of-parts.ensures es) c.in_ok-graph.ensures in
+    let clear : NoRound list → TreeFits chips own → TreeClear chips own = λ none. seen_clear chips ks own hs (c.requires.no_end own there) is c.requires.right (c.requires.done own there) (subst NoRound (ap hops_in c.deref.ensures.value) none) in
     IfOk-weaker c.loop_in.result _ _
     (λ r h chip at. let same : own ≡ chip = cc in subst (λ (v : Entry). EndsLook chips v r) same (told chips own list r clear h))
     c.loop_in.ensures
@@ -45,9 +46,9 @@ loop_in-requires-clause-hops c =
     let chips = chips_in es c.args.memories in
     let ks = c.args.known.now in
     let own = c.index-entries-k.result in
-    let hs = c.in_ok-hops.hops.items in
-    let is : IsGraph chips ks own hs = subst (λ (ps : List Part). AreLeaps hs (gather (part_leaps chips ks) ps)) (c.parts_of-parts.ensures es) c.in_ok-hops.ensures in
-    subst (AreHops chips ks own) (sym c.deref.ensures.value) (graph_hops chips ks own hs is)
+    let hs = hops_in c.in_ok-graph.graph.items in
+    let is : IsGraph chips ks own hs = subst (λ (ps : List Part). AreLeaps hs (gather (part_leaps chips ks) ps)) (c.parts_of-parts.ensures es) c.in_ok-graph.ensures in
+    subst (AreHops chips ks own) (sym (ap hops_in c.deref.ensures.value)) (graph_hops chips ks own hs is)
 
 pub loop_in-requires-clause-full : goal.loop_in-requires-clause-full
 loop_in-requires-clause-full c =
@@ -56,9 +57,9 @@ loop_in-requires-clause-full c =
     let ks = c.args.known.now in
     let own = c.index-entries-k.result in
     let there : slice_get es c.args.k ≡ Some own = slice_get_read es (length es) c.args.k own refl c.requires.there c.index-entries-k.is in
-    let hs = c.in_ok-hops.hops.items in
-    let is : IsGraph chips ks own hs = subst (λ (ps : List Part). AreLeaps hs (gather (part_leaps chips ks) ps)) (c.parts_of-parts.ensures es) c.in_ok-hops.ensures in
-    subst (IsFull chips own) (sym c.deref.ensures.value) (graph_full chips ks own hs is c.requires.right (c.requires.done own there) (nests_fit c.args.depth chips own (c.requires.nests own there)))
+    let hs = hops_in c.in_ok-graph.graph.items in
+    let is : IsGraph chips ks own hs = subst (λ (ps : List Part). AreLeaps hs (gather (part_leaps chips ks) ps)) (c.parts_of-parts.ensures es) c.in_ok-graph.ensures in
+    subst (IsFull chips own) (sym (ap hops_in c.deref.ensures.value)) (graph_full chips ks own hs is c.requires.right (c.requires.done own there) (nests_fit c.args.depth chips own (c.requires.nests own there)))
 
 pub loop_in-requires-clause-nests : goal.loop_in-requires-clause-nests
 loop_in-requires-clause-nests c =

@@ -43,6 +43,13 @@ overflow_sub-depth c =
     let pos = not_zero c.args.depth chips e.0 (c.requires.task.2 e.0 e.1) in
     omega (arith, pos)
 
+pub way_through-requires-clause-right : goal.way_through-requires-clause-right
+way_through-requires-clause-right c = λ inside at.
+    let chips = chips_in c.args.entries.now c.args.memories in
+    let e = entry_there chips.entries c.args.passage.chip c.requires.task.0 in
+    let right = c.requires.known c.args.passage.chip e.0 inside e.1 at in
+    (right.linked, right.sound)
+
 pub returns-clause-tasks : goal.returns-clause-tasks
 returns-clause-tasks c =
     let chips = chips_in c.args.entries.now c.args.memories in

@@ -1,5 +1,6 @@
 use Rattle.std.proofs.Common.{◌≡◌, ◌≤◌, List, length, ap, ◌∙◌, arith}
 use Rattle.std.specs.Prelude.{slice_get}
+use Rattle.hdl_loops.specs.Inner.Bundles.{hops_in}
 use Rattle.hdl_loops.specs.Inner.Hops.{bit}
 use Rattle.hdl_loops.specs.declared.tree.Node.{Node}
 use Rattle.hdl_loops.proofs.Pairing.{ways_more, pairs_kept, tree_leads, way_at, there_more}
@@ -10,7 +11,7 @@ loop-node-init c = record { right = c.requires.right; kept = λ x y h. h; there 
 
 pub loop-node-preserved : goal.loop-node-preserved
 loop-node-preserved c =
-    let hs = c.args.hops.now in
+    let hs = hops_in c.args.graph.now in
     let x = bit c.args.from in
     let tree = c.in_ok-tree.tree in
     let list = c.reached-nodes.result.now in
@@ -37,5 +38,5 @@ returns-clause-there c =
     let list = c.reached-nodes.result.now in
     let long : length list ≡ length tree.nodes.items = ap (λ (v : List Node). length v) c.reached-nodes.ensures in
     let le : length tree.nodes.items ≤ c.loop-node.node-index = omega arith in
-    tree_leads c.args.hops.now tree c.args.ends.now c.loop-node.pairs.keys (bit c.args.from) c.loop-node.node-index c.in_ok-tree.ensures le
+    tree_leads (hops_in c.args.graph.now) tree c.args.ends.now c.loop-node.pairs.keys (bit c.args.from) c.loop-node.node-index c.in_ok-tree.ensures le
     (λ j lt node at named. c.loop-node.invariant.there j lt node (ap (λ (v : List Node). slice_get v j) c.reached-nodes.ensures ∙ at) named)

@@ -1,12 +1,13 @@
 use Rattle.std.proofs.Common.{ℕ, List, [], below_more, subst}
 use Rattle.hdl_plans.specs.Loops.{bit_at}
+use Rattle.hdl_loops.specs.Inner.Bundles.{hops_in}
 use Rattle.hdl_loops.specs.Inner.Pairs.{BitLeads}
 use Rattle.hdl_loops.proofs.Pairing.{pairs_kept, leads_kept}
 use Rattle.hdl_loops.proofs.pairs.add_pin.Goals as goal
 
 pub loop-b-preserved : goal.loop-b-preserved
 loop-b-preserved c =
-    let hs = c.args.hops.now in
+    let hs = hops_in c.args.graph.now in
     let ends = c.args.ends.now in
     let old = c.loop-b.pairs.keys in
     let new = c.add_bit.new.pairs.keys in

@@ -2,6 +2,7 @@ use Rattle.std.proofs.Common.{◌<◌, ℕ, [], length, List, refl, subst, arith
 use Rattle.std.proofs.lemmas.Option.{slice_get_within}
 use Rattle.hdl_tree.specs.declared.tree.Pin.{Pin}
 use Rattle.hdl_plans.specs.Loops.{bit_at}
+use Rattle.hdl_loops.specs.Inner.Bundles.{hops_in}
 use Rattle.hdl_loops.specs.Inner.Pairs.{PinLeads, BitLeads}
 use Rattle.hdl_loops.proofs.Lists.{item_is}
 use Rattle.hdl_loops.proofs.Pairing.{leads_kept}
@@ -10,7 +11,7 @@ use Rattle.hdl_loops.proofs.pairs.pairs_of.Goals as goal
 
 pub loop-pin-preserved : goal.loop-pin-preserved
 loop-pin-preserved c =
-    let hs = c.args.hops.now in
+    let hs = hops_in c.args.graph.now in
     let ends = c.in_ok-ends.ends in
     let old = c.loop-pin.pairs.keys in
     let new = c.add_pin.new.pairs.keys in
@@ -28,6 +29,6 @@ returns-clause-there c = λ n m b k from to way.
     let p = pin_of_bit pins n b from in
     let within : p.place < length pins = slice_get_within pins p.place p.pin p.there in
     let lt : p.place < c.loop-pin.pin-index = omega arith in
-    let leads : BitLeads c.args.hops.now c.in_ok-ends.ends c.loop-pin.pairs.keys (bit_at [] n b) =
-    subst (λ (v : List ℕ). BitLeads c.args.hops.now c.in_ok-ends.ends c.loop-pin.pairs.keys (bit_at [] v b)) p.named (c.loop-pin.invariant.there p.place lt p.pin p.there b (subst (λ w. b < w) p.wide from.below)) in
+    let leads : BitLeads (hops_in c.args.graph.now) c.in_ok-ends.ends c.loop-pin.pairs.keys (bit_at [] n b) =
+    subst (λ (v : List ℕ). BitLeads (hops_in c.args.graph.now) c.in_ok-ends.ends c.loop-pin.pairs.keys (bit_at [] v b)) p.named (c.loop-pin.invariant.there p.place lt p.pin p.there b (subst (λ w. b < w) p.wide from.below)) in
     leads m k (c.in_ok-ends.ensures m k to) way

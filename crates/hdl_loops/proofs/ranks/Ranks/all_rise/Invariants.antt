@@ -1,8 +1,8 @@
 use Rattle.std.proofs.Common.{◌≡◌, ℕ, ◌<◌, Some}
 use Rattle.std.specs.Prelude.{slice_get}
-use Rattle.hdl_loops.specs.Inner.Ranked.{HopRises}
-use Rattle.hdl_loops.specs.declared.hops.Hop.{Hop}
+use Rattle.hdl_loops.specs.Inner.Ranked.{BundleRises}
+use Rattle.hdl_loops.specs.declared.bundle.Bundle.{Bundle}
 use Rattle.hdl_loops.proofs.ranks.Ranks.all_rise.Given as goal
 
-abbrev pub invariant-loop-hop : goal.invariant-loop-hop
-invariant-loop-hop l = (p : ℕ) → p < l.hop-index → (h : Hop) → slice_get l.hops p ≡ Some h → HopRises l.self h
+abbrev pub invariant-loop-bundle : goal.invariant-loop-bundle
+invariant-loop-bundle l = (g : ℕ) → g < l.bundle-index → (b : Bundle) → slice_get l.graph g ≡ Some b → BundleRises l.self b

@@ -10,5 +10,6 @@ returns c =
     record {
       root = refl;
       nodes = c.in_ok-push.ensures.items;
+      passed = refl;
       places = c.in-Ok.ensures.entries ∙ (absent_last old c.args.hop.to (length list) c.requires ∙ ap (λ (v : List Node). old ++ (c.args.hop.to, length v) ∷ []) c.as_slice-place.ensures.value);
     }

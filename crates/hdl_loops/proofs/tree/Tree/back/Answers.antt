@@ -1,6 +1,7 @@
 use Rattle.std.proofs.Common.{rules, ◌≡◌, ◌<◌, [], ◌∷◌, List, length, get_or, Option, Some, None, ℕ, reverse, sym, ap, subst, ◌∙◌}
 use Rattle.std.specs.Prelude.{slice_get}
 use Rattle.std.proofs.lemmas.List.{reverse-append}
+use Rattle.hdl_loops.specs.Inner.Bundles.{hops_in}
 use Rattle.hdl_loops.specs.Inner.Hops.{bit}
 use Rattle.hdl_loops.specs.Inner.Trees.{IsBack}
 use Rattle.hdl_loops.specs.declared.hops.Hop.{Hop}
@@ -11,24 +12,24 @@ use Rattle.hdl_loops.proofs.Parting.{not_some}
 use Rattle.hdl_loops.proofs.tree.Tree.back.Goals as goal
 
 pub loop-at-init : goal.loop-at-init
-loop-at-init c = λ node e. subst (λ (v : List Hop). IsBack c.args.hops.now c.args.self.now (Some c.args.last) (reverse v) (bit node.hop.to)) (sym c.new-way.ensures.items) (back_start c.args.hops.now c.args.self.now c.args.last node e)
+loop-at-init c = λ node e. subst (λ (v : List Hop). IsBack (hops_in c.args.graph.now) c.args.self.now (Some c.args.last) (reverse v) (bit node.hop.to)) (sym c.new-way.ensures.items) (back_start (hops_in c.args.graph.now) c.args.self.now c.args.last node e)
 
 pub bounds-nodes-place : goal.bounds-nodes-place
 bounds-nodes-place c =
     let t = c.args.self.now in
     let last = there_at t.nodes.items c.args.last c.requires.there in
-    let b : IsBack c.args.hops.now t (Some c.in-Some.place) (reverse c.loop-at.way.items) (bit last.0.hop.to) = subst (λ (o : Option ℕ). IsBack c.args.hops.now t o (reverse c.loop-at.way.items) (bit last.0.hop.to)) c.in-Some.is (c.loop-at.invariant last.0 last.1) in
-    subst (λ (v : List Node). c.in-Some.place < length v) (sym c.as_slice-nodes.ensures.value) (back_within c.args.hops.now t c.in-Some.place (reverse c.loop-at.way.items) (bit last.0.hop.to) b)
+    let b : IsBack (hops_in c.args.graph.now) t (Some c.in-Some.place) (reverse c.loop-at.way.items) (bit last.0.hop.to) = subst (λ (o : Option ℕ). IsBack (hops_in c.args.graph.now) t o (reverse c.loop-at.way.items) (bit last.0.hop.to)) c.in-Some.is (c.loop-at.invariant last.0 last.1) in
+    subst (λ (v : List Node). c.in-Some.place < length v) (sym c.as_slice-nodes.ensures.value) (back_within (hops_in c.args.graph.now) t c.in-Some.place (reverse c.loop-at.way.items) (bit last.0.hop.to) b)
 
 pub returns : goal.returns
 returns c = λ node e.
     let t = c.args.self.now in
-    let b : IsBack c.args.hops.now t None (reverse c.loop-at.way.items) (bit node.hop.to) = subst (λ (o : Option ℕ). IsBack c.args.hops.now t o (reverse c.loop-at.way.items) (bit node.hop.to)) (not_some _ c.in_default.not-Some) (c.loop-at.invariant node e) in
-    back_way c.args.hops.now t (reverse c.loop-at.way.items) (bit node.hop.to) c.requires.right b
+    let b : IsBack (hops_in c.args.graph.now) t None (reverse c.loop-at.way.items) (bit node.hop.to) = subst (λ (o : Option ℕ). IsBack (hops_in c.args.graph.now) t o (reverse c.loop-at.way.items) (bit node.hop.to)) (not_some _ c.in_default.not-Some) (c.loop-at.invariant node e) in
+    back_way (hops_in c.args.graph.now) t (reverse c.loop-at.way.items) (bit node.hop.to) c.requires.right b
 
 pub loop-at-preserved : goal.loop-at-preserved
 loop-at-preserved c = λ node e.
-    let hs = c.args.hops.now in
+    let hs = hops_in c.args.graph.now in
     let t = c.args.self.now in
     let list = c.as_slice-nodes.result.now in
     let place = c.in-Some.place in
@@ -40,7 +41,7 @@ loop-at-preserved c = λ node e.
 
 pub loop-at-smaller : goal.loop-at-smaller
 loop-at-smaller c =
-    let hs = c.args.hops.now in
+    let hs = hops_in c.args.graph.now in
     let t = c.args.self.now in
     let list = c.as_slice-nodes.result.now in
     let place = c.in-Some.place in

@@ -1,6 +1,7 @@
 use Rattle.std.proofs.Common.{List, reverse, sym, subst}
 use Rattle.std.proofs.lemmas.Option.{slice_get_within}
 use Rattle.hdl_plans.specs.Loops.{BitAt}
+use Rattle.hdl_loops.specs.Inner.Bundles.{hops_in}
 use Rattle.hdl_loops.specs.Inner.Hops.{bit, IsWay}
 use Rattle.hdl_loops.specs.declared.hops.Hop.{Hop}
 use Rattle.hdl_loops.proofs.tree.Tree.way_to.Goals as goal
@@ -12,7 +13,7 @@ back-requires-clause-there c =
 
 pub returns-in_ok-way-in-Some : goal.returns-in_ok-way-in-Some
 returns-in_ok-way-in-Some c =
-    let hs = c.args.hops.now in
+    let hs = hops_in c.args.graph.now in
     let root = bit c.args.self.now.root in
     let p = c.requires.places c.args.to.now.name.now c.args.to.now.bit c.in-Some.place.now (sym c.in-Some.ensures.value) in
     subst (λ (v : List Hop). IsWay hs root v (bit c.args.to.now)) (sym c.reverse.ensures.items)
