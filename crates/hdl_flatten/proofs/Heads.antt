@@ -1,12 +1,14 @@
--- Parts that are kept as names, nodes and heads.
+-- Parts that are kept as kinds, nodes and heads.
 use Rattle.std.proofs.Common.{◌≡◌, ◌<◌, ◌≤◌, ◌+◌, ◌-◌, ℕ, zero, suc, List, [], ◌∷◌, ◌++◌, length, map, take, drop, refl, sym, ap, subst, ◌∙◌, arith}
 use Rattle.std.specs.Prelude.{Option, Some, None, slice_get, slice_index, slice_index_or, slice_range}
 use Rattle.std.specs.List.{All}
-use Rattle.std.proofs.lemmas.List.{length-append, length-drop, length-map, get_or_append_left, take-append-le, drop-append-le, take-map, drop-map, map-append, take_all, drop_at, append-nil}
+use Rattle.std.proofs.lemmas.List.{length-append, length-drop, get_or_append_left, take-append-le, drop-append-le, take-map, drop-map, map-append, take_all, drop_at}
+use Rattle.std.proofs.lemmas.List.Elements.{All-append}
 use Rattle.hdl_flatten.specs.declared.flat.PartAt.{PartAt}
 use Rattle.hdl_flatten.specs.declared.parts.Head.{Head}
+use Rattle.hdl_flatten.specs.declared.parts.Kind.{Kind}
 use Rattle.hdl_flatten.specs.Kept.{renumbered}
-use Rattle.hdl_flatten.specs.Inner.Heads.{HasMore, IsHead, part_of}
+use Rattle.hdl_flatten.specs.Inner.Heads.{HasMore, IsHead, kind_at, part_from, part_of}
 
 -- what is there is found
 pub found : {X : Type 0} (xs : List X) (k : ℕ) (x d : X) → slice_get xs k ≡ Some x → slice_index_or xs k d ≡ x
@@ -24,7 +26,7 @@ got [] k d lt = absurd (omega (arith, lt))
 got (y ∷ xs) zero d lt = refl
 got (y ∷ xs) (suc k) d lt = got xs k d (omega (arith, lt))
 
--- ---- more names and nodes
+-- ---- more kinds and nodes
 
 range_kept : (nodes more : List ℕ) (i j : ℕ) → i ≤ j → j ≤ length nodes → slice_range (nodes ++ more) i j ≡ slice_range nodes i j
 range_kept nodes more i j le lt =
@@ -36,49 +38,79 @@ range_end nodes more i j e f =
     let long = length-append nodes more in
     ap (take (j - i)) (drop_at nodes more i (sym e)) ∙ take_all (j - i) more (omega (arith, e, f, long))
 
-part_kept : (names more : List (List ℕ)) (nodes outs : List ℕ) (head : Head) → IsHead (length names) (length nodes) head → part_of (names ++ more) (nodes ++ outs) head ≡ part_of names nodes head
-part_kept names more nodes outs head is =
-    let name : slice_index_or (names ++ more) head.chip [] ≡ slice_index_or names head.chip [] = get_or_append_left names more [] head.chip is.chip in
-    let outs_are : slice_range (nodes ++ outs) head.from head.end ≡ slice_range nodes head.from head.end = range_kept nodes outs head.from head.end is.from is.end in
-    ap (λ (n : List ℕ). record { chip = n; outs = slice_range (nodes ++ outs) head.from head.end; block = head.block }) name
-    ∙ ap (λ (os : List ℕ). record { chip = slice_index_or names head.chip []; outs = os; block = head.block }) outs_are
+part_kept : (kinds more : List Kind) (nodes outs : List ℕ) (head : Head) → IsHead kinds (length nodes) head → part_of (kinds ++ more) (nodes ++ outs) head ≡ part_of kinds nodes head
+part_kept kinds more nodes outs head is =
+    let kind = kind_at kinds head.kind in
+    let same : kind_at (kinds ++ more) head.kind ≡ kind = get_or_append_left kinds more _ head.kind is.kind in
+    let outs_are : slice_range (nodes ++ outs) head.from (head.from + kind.outs) ≡ slice_range nodes head.from (head.from + kind.outs) = range_kept nodes outs head.from (head.from + kind.outs) (omega arith) is.end in
+    ap (part_from (nodes ++ outs) head.from) same
+    ∙ ap (λ (os : List ℕ). record { chip = kind.chip; outs = os; block = kind.block }) outs_are
 
-parts_kept : (names more : List (List ℕ)) (nodes outs : List ℕ) (heads : List Head) → All (IsHead (length names) (length nodes)) heads → map (part_of (names ++ more) (nodes ++ outs)) heads ≡ map (part_of names nodes) heads
-parts_kept names more nodes outs [] all = refl
-parts_kept names more nodes outs (head ∷ heads) all =
-    ap (λ (p : PartAt). p ∷ map (part_of (names ++ more) (nodes ++ outs)) heads) (part_kept names more nodes outs head (all 0 head (omega arith)))
-    ∙ ap (λ (ps : List PartAt). part_of names nodes head ∷ ps) (parts_kept names more nodes outs heads (λ k d lt. all (suc k) d (omega (arith, lt))))
+parts_kept : (kinds more : List Kind) (nodes outs : List ℕ) (heads : List Head) → All (IsHead kinds (length nodes)) heads → map (part_of (kinds ++ more) (nodes ++ outs)) heads ≡ map (part_of kinds nodes) heads
+parts_kept kinds more nodes outs [] all = refl
+parts_kept kinds more nodes outs (head ∷ heads) all =
+    ap (λ (p : PartAt). p ∷ map (part_of (kinds ++ more) (nodes ++ outs)) heads) (part_kept kinds more nodes outs head (all 0 head (omega arith)))
+    ∙ ap (λ (ps : List PartAt). part_of kinds nodes head ∷ ps) (parts_kept kinds more nodes outs heads (λ k d lt. all (suc k) d (omega (arith, lt))))
 
 -- ---- one more part
 
-pub one_more : (names names2 : List (List ℕ)) (nodes nodes2 : List ℕ) (heads heads2 : List Head) (part : PartAt) (head : Head) → All (IsHead (length names) (length nodes)) heads → HasMore names names2 → slice_get names2 head.chip ≡ Some part.chip →
-    nodes2 ≡ nodes ++ part.outs → head.from ≡ length nodes → head.end ≡ length nodes2 → head.block ≡ part.block → heads2 ≡ heads ++ head ∷ [] →
-    map (part_of names2 nodes2) heads2 ≡ map (part_of names nodes) heads ++ part ∷ []
-one_more names names2 nodes nodes2 heads heads2 part head all h name e from end block f =
-    let outs_are : slice_range nodes2 head.from head.end ≡ part.outs =
-    ap (λ (ns : List ℕ). slice_range ns head.from head.end) e ∙ range_end nodes part.outs head.from head.end from (end ∙ ap length e) in
-    let last : part_of names2 nodes2 head ≡ part =
-    ap (λ (n : List ℕ). record { chip = n; outs = slice_range nodes2 head.from head.end; block = head.block }) (found names2 head.chip part.chip [] name)
-    ∙ ap (λ (os : List ℕ). record { chip = part.chip; outs = os; block = head.block }) outs_are
-    ∙ ap (λ b. record { chip = part.chip; outs = part.outs; block = b }) block in
-    let before : map (part_of names2 nodes2) heads ≡ map (part_of names nodes) heads =
-    ap (λ (ns : List ℕ). map (part_of names2 ns) heads) e ∙ ap (λ (ns : List (List ℕ)). map (part_of ns (nodes ++ part.outs)) heads) h.longer ∙ parts_kept names h.more nodes part.outs heads all in
-    ap (map (part_of names2 nodes2)) f ∙ map-append (part_of names2 nodes2) heads (head ∷ [])
-    ∙ ap (λ (ps : List PartAt). ps ++ part_of names2 nodes2 head ∷ []) before
-    ∙ ap (λ (p : PartAt). map (part_of names nodes) heads ++ p ∷ []) last
+abbrev pub kind_of : PartAt → Kind
+kind_of part = record { chip = part.chip; outs = length part.outs; block = part.block }
+
+pub one_more : (kinds kinds2 : List Kind) (nodes nodes2 : List ℕ) (heads heads2 : List Head) (part : PartAt) (head : Head) → All (IsHead kinds (length nodes)) heads → HasMore kinds kinds2 → slice_get kinds2 head.kind ≡ Some (kind_of part) →
+    nodes2 ≡ nodes ++ part.outs → head.from ≡ length nodes → heads2 ≡ heads ++ head ∷ [] →
+    map (part_of kinds2 nodes2) heads2 ≡ map (part_of kinds nodes) heads ++ part ∷ []
+one_more kinds kinds2 nodes nodes2 heads heads2 part head all h kind e from f =
+    let long = length-append nodes part.outs in
+    let outs_are : slice_range nodes2 head.from (head.from + length part.outs) ≡ part.outs =
+    ap (λ (ns : List ℕ). slice_range ns head.from (head.from + length part.outs)) e ∙ range_end nodes part.outs head.from (head.from + length part.outs) from (omega (arith, from, long)) in
+    let last : part_of kinds2 nodes2 head ≡ part =
+    ap (part_from nodes2 head.from) (found kinds2 head.kind (kind_of part) _ kind)
+    ∙ ap (λ (os : List ℕ). record { chip = part.chip; outs = os; block = part.block }) outs_are in
+    let before : map (part_of kinds2 nodes2) heads ≡ map (part_of kinds nodes) heads =
+    ap (λ (ns : List ℕ). map (part_of kinds2 ns) heads) e ∙ ap (λ (ks : List Kind). map (part_of ks (nodes ++ part.outs)) heads) h.longer ∙ parts_kept kinds h.more nodes part.outs heads all in
+    ap (map (part_of kinds2 nodes2)) f ∙ map-append (part_of kinds2 nodes2) heads (head ∷ [])
+    ∙ ap (λ (ps : List PartAt). ps ++ part_of kinds2 nodes2 head ∷ []) before
+    ∙ ap (λ (p : PartAt). map (part_of kinds nodes) heads ++ p ∷ []) last
+
+-- ---- each head names what is there
+
+head_stays : (kinds kinds2 : List Kind) (n n2 : ℕ) (head : Head) → IsHead kinds n head → HasMore kinds kinds2 → n ≤ n2 → IsHead kinds2 n2 head
+head_stays kinds kinds2 n n2 head is h le =
+    let same : kind_at kinds2 head.kind ≡ kind_at kinds head.kind = ap (λ (ks : List Kind). kind_at ks head.kind) h.longer ∙ get_or_append_left kinds h.more _ head.kind is.kind in
+    let outs = ap (λ (k : Kind). k.outs) same in
+    let long = ap length h.longer ∙ length-append kinds h.more in
+    let end = is.end in
+    let number = is.kind in
+    record { kind = omega (arith, long, number); end = omega (arith, outs, end, le) }
+
+alone : {X : Type 0} (P : X → Type 0) (x : X) → P x → All P (x ∷ [])
+alone P x p zero d lt = p
+alone P x p (suc k) d lt = absurd (omega (arith, lt))
+
+pub heads_stay : (kinds kinds2 : List Kind) (nodes nodes2 : List ℕ) (heads heads2 : List Head) (part : PartAt) (head : Head) → All (IsHead kinds (length nodes)) heads → HasMore kinds kinds2 → slice_get kinds2 head.kind ≡ Some (kind_of part) →
+    nodes2 ≡ nodes ++ part.outs → head.from ≡ length nodes → heads2 ≡ heads ++ head ∷ [] → All (IsHead kinds2 (length nodes2)) heads2
+heads_stay kinds kinds2 nodes nodes2 heads heads2 part head all h kind e from f =
+    let long = ap length e ∙ length-append nodes part.outs in
+    let outs = ap (λ (k : Kind). k.outs) (found kinds2 head.kind (kind_of part) (record { chip = []; outs = 0; block = None }) kind) in
+    let last : IsHead kinds2 (length nodes2) head = record { kind = there kinds2 head.kind (kind_of part) kind; end = omega (arith, outs, long, from) } in
+    let before : All (IsHead kinds2 (length nodes2)) heads = λ k d lt. head_stays kinds kinds2 (length nodes) (length nodes2) _ (all k d lt) h (omega (arith, long)) in
+    subst (λ (l : List Head). All (IsHead kinds2 (length nodes2)) l) (sym f) (All-append (IsHead kinds2 (length nodes2)) heads (head ∷ []) before (alone (IsHead kinds2 (length nodes2)) head last))
 
 -- ---- other places
 
-part_renumbered : (names : List (List ℕ)) (nodes places : List ℕ) (head : Head) → part_of names (map (slice_index places) nodes) head ≡ renumbered places (part_of names nodes head)
-part_renumbered names nodes places head =
-    ap (λ (os : List ℕ). record { chip = slice_index_or names head.chip []; outs = os; block = head.block })
-    (ap (take (head.end - head.from)) (drop-map (slice_index places) head.from nodes) ∙ take-map (slice_index places) (head.end - head.from) (drop head.from nodes))
+part_renumbered : (kinds : List Kind) (nodes places : List ℕ) (head : Head) → part_of kinds (map (slice_index places) nodes) head ≡ renumbered places (part_of kinds nodes head)
+part_renumbered kinds nodes places head =
+    let kind = kind_at kinds head.kind in
+    let end = head.from + kind.outs in
+    ap (λ (os : List ℕ). record { chip = kind.chip; outs = os; block = kind.block })
+    (ap (take (end - head.from)) (drop-map (slice_index places) head.from nodes) ∙ take-map (slice_index places) (end - head.from) (drop head.from nodes))
 
-pub all_renumbered : (names : List (List ℕ)) (nodes places : List ℕ) (heads : List Head) → map (part_of names (map (slice_index places) nodes)) heads ≡ map (renumbered places) (map (part_of names nodes) heads)
-all_renumbered names nodes places [] = refl
-all_renumbered names nodes places (head ∷ heads) =
-    ap (λ (p : PartAt). p ∷ map (part_of names (map (slice_index places) nodes)) heads) (part_renumbered names nodes places head)
-    ∙ ap (λ (ps : List PartAt). renumbered places (part_of names nodes head) ∷ ps) (all_renumbered names nodes places heads)
+pub all_renumbered : (kinds : List Kind) (nodes places : List ℕ) (heads : List Head) → map (part_of kinds (map (slice_index places) nodes)) heads ≡ map (renumbered places) (map (part_of kinds nodes) heads)
+all_renumbered kinds nodes places [] = refl
+all_renumbered kinds nodes places (head ∷ heads) =
+    ap (λ (p : PartAt). p ∷ map (part_of kinds (map (slice_index places) nodes)) heads) (part_renumbered kinds nodes places head)
+    ∙ ap (λ (ps : List PartAt). renumbered places (part_of kinds nodes head) ∷ ps) (all_renumbered kinds nodes places heads)
 
 -- ---- each item
 

@@ -1,6 +1,6 @@
 //! The parts that are listed, of which none owns anything.
 
-ghost use Rattle.std.specs.Prelude.{◌≡◌, ◌<◌, ◌^◌, ℕ, [], ◌∷◌, ◌++◌, IfOk, OnOk, IfSome, Some, length, map, slice_get, slice_index};
+ghost use Rattle.std.specs.Prelude.{◌≡◌, ◌<◌, ◌^◌, ℕ, true, [], ◌∷◌, ◌++◌, IfOk, OnOk, IfSome, Some, length, map, slice_get, slice_index};
 ghost use Rattle.hdl_flatten.specs.Kept.{part_listed, renumbered};
 ghost use Rattle.hdl_flatten.specs.Inner.Heads.{HasMore};
 
@@ -9,14 +9,23 @@ use hdl_tree::{List, Name};
 use std::alloc::{AllocError, Global};
 use std::marker::Model;
 
-/// A part as it is kept: the number of its chip's name, where its nodes begin and end among those of all parts, and its block.
-#[derive(Clone, Copy)]
-pub struct Head {
-    pub(crate) chip: u32,
-    pub(crate) from: u32,
-    pub(crate) end: u32,
+/// What parts of one kind have in common: their chip, how many output bits they have, and a block. Each part that is a block is
+/// of a kind of its own.
+#[derive(Drop)]
+pub struct Kind {
+    pub(crate) chip: Name,
+    pub(crate) outs: u32,
     pub(crate) block: Option<u32>,
 }
+
+/// A part as it is kept: the number of its kind, and where its nodes begin among those of all parts.
+#[derive(Clone, Copy)]
+pub struct Head {
+    pub(crate) kind: u32,
+    pub(crate) from: u32,
+}
+
+const _: () = prove!(size_of::<Head>() == 8);
 
 /// A part that is listed: its chip, the nodes of its output bits, and its block if it is one.
 #[derive(Clone, Copy)]
@@ -26,10 +35,10 @@ pub struct ListedPart<'a> {
     pub block: Option<u32>,
 }
 
-/// Parts, which contracts see as a list. A name stands once for all parts of its chip, and the nodes of all parts stand in
-/// one list. For each hint stands the number of the name that it was given with last.
+/// Parts, which contracts see as a list. A kind stands once for all its parts, and the nodes of all parts stand in one list.
+/// For each hint stands the number of the kind that it was given with last.
 pub struct Parts {
-    names: Vec<Name>,
+    kinds: Vec<Kind>,
     nodes: Vec<u32>,
     heads: Vec<Head>,
     numbers: Vec<u32>,
@@ -39,7 +48,7 @@ pub struct Parts {
 impl Drop for Parts {
     fn drop(self) {
         let Parts {
-            names: _,
+            kinds: _,
             nodes: _,
             heads: _,
             numbers: _,
@@ -56,25 +65,39 @@ impl Model for Parts {
 
     ghost Value = { std.List PartAt };
 
-    ghost view = { λ p. map (part_of p.names.items p.nodes.items) p.heads.items };
+    ghost view = { λ p. map (part_of p.kinds.items p.nodes.items) p.heads.items };
 
-    ghost invariant = { λ p. All (IsHead (length p.names.items) (length p.nodes.items))
-        p.heads.items };
+    ghost invariant = { λ p. All (IsHead p.kinds.items (length p.nodes.items)) p.heads.items };
 }
 
-// The number of a name, where a hint tells it.
-fn told_number(names: &[Name], numbers: &[u32], name: &Name, hint: usize) -> Option<u32>
-    ensures { IfSome result (λ n. slice_get names.now n ≡ Some name.now) }
+fn are_same_blocks(a: Option<u32>, b: Option<u32>) -> bool
+    ensures { result ≡ true → a ≡ b }
+{
+    match (a, b) {
+        (Some(a), Some(b)) => a == b,
+        (None, None) => true,
+        (Some(_), None) | (None, Some(_)) => false,
+    }
+}
+
+fn are_same_kinds(a: &Kind, b: &Kind) -> bool
+    ensures { result ≡ true → a.now ≡ b.now }
+{
+    a.outs == b.outs && are_same_blocks(a.block, b.block) && a.chip == b.chip
+}
+
+// The number of a kind, where a hint tells it.
+fn told_number(kinds: &[Kind], numbers: &[u32], kind: &Kind, hint: usize) -> Option<u32>
+    ensures { IfSome result (λ n. slice_get kinds.now n ≡ Some kind.now) }
 {
     if hint >= numbers.len() {
         return None;
     }
     let number = numbers[hint];
-    if number as usize >= names.len() {
+    if number as usize >= kinds.len() {
         return None;
     }
-    let there = &names[number as usize];
-    if there.as_bytes() == name.as_bytes() {
+    if are_same_kinds(&kinds[number as usize], kind) {
         Some(number)
     } else {
         None
@@ -92,37 +115,37 @@ fn short(n: usize) -> Result<u32, AllocError>
     }
 }
 
-// A name at the end, and its number for the hint.
-fn add_name(
-    names: &mut Vec<Name>,
+// A kind at the end, and its number for the hint.
+fn add_kind(
+    kinds: &mut Vec<Kind>,
     numbers: &mut Vec<u32>,
-    name: Name,
+    kind: Kind,
     hint: usize,
 ) -> Result<u32, AllocError>
-    ensures more { HasMore names.old.items names.new.items }
-    ensures there { IfOk result (λ n. slice_get names.new.items n ≡ Some name) }
+    ensures more { HasMore kinds.old.items kinds.new.items }
+    ensures there { IfOk result (λ n. slice_get kinds.new.items n ≡ Some kind) }
 {
-    let number = short(names.len())?;
-    names.push(name)?;
+    let number = short(kinds.len())?;
+    kinds.push(kind)?;
     if hint < numbers.len() {
         numbers[hint] = number;
     }
     Ok(number)
 }
 
-// The number of a name, which is put at the end where the hint does not tell it.
+// The number of a kind, which is put at the end where the hint does not tell it.
 fn number_of(
-    names: &mut Vec<Name>,
+    kinds: &mut Vec<Kind>,
     numbers: &mut Vec<u32>,
-    name: Name,
+    kind: Kind,
     hint: usize,
 ) -> Result<u32, AllocError>
-    ensures more { HasMore names.old.items names.new.items }
-    ensures there { IfOk result (λ n. slice_get names.new.items n ≡ Some name) }
+    ensures more { HasMore kinds.old.items kinds.new.items }
+    ensures there { IfOk result (λ n. slice_get kinds.new.items n ≡ Some kind) }
 {
-    match told_number(names, numbers, &name, hint) {
+    match told_number(kinds, numbers, &kind, hint) {
         Some(number) => Ok(number),
-        None => add_name(names, numbers, name, hint),
+        None => add_kind(kinds, numbers, kind, hint),
     }
 }
 
@@ -167,28 +190,28 @@ impl Parts {
         ensures { IfOk result (λ parts. parts ≡ []) }
     {
         Ok(Parts {
-            names: Vec::new(alloc),
+            kinds: Vec::new(alloc),
             nodes: Vec::new(alloc),
             heads: Vec::new(alloc),
             numbers: vec![in alloc; 0u32; hints]?,
         })
     }
 
-    /// One more part at the end. The name of its chip stands once where all parts of a chip have a hint of their own.
+    /// One more part at the end. A kind stands once where all parts of a chip have a hint of their own.
     pub(crate) fn push(&mut self, part: PartAt, hint: usize) -> Result<(), AllocError>
         ensures { OnOk result (self.new ≡ self.old ++ part ∷ []) }
     {
         let PartAt { chip, outs, block } = part;
-        let chip = number_of(&mut self.names, &mut self.numbers, chip, hint)?;
         let from = short(self.nodes.len())?;
-        self.nodes.extend_from_slice(outs.as_slice())?;
-        let end = short(self.nodes.len())?;
-        self.heads.push(Head {
+        let width = short(outs.as_slice().len())?;
+        let kind = Kind {
             chip,
-            from,
-            end,
+            outs: width,
             block,
-        })?;
+        };
+        let kind = number_of(&mut self.kinds, &mut self.numbers, kind, hint)?;
+        self.nodes.extend_from_slice(outs.as_slice())?;
+        self.heads.push(Head { kind, from })?;
         Ok(())
     }
 
@@ -205,10 +228,12 @@ impl Parts {
         ensures { slice_get self.now k ≡ Some (part_listed result) }
     {
         let head = self.heads[k];
+        let kind = &self.kinds[head.kind as usize];
+        let from = head.from as usize;
         ListedPart {
-            chip: &self.names[head.chip as usize],
-            outs: &self.nodes[head.from as usize..head.end as usize],
-            block: head.block,
+            chip: &kind.chip,
+            outs: &self.nodes[from..from + kind.outs as usize],
+            block: kind.block,
         }
     }
 

@@ -1,19 +1,27 @@
--- How parts are kept: names stand once, and nodes in one list.
-use Rattle.std.specs.Prelude.{◌≡◌, ◌<◌, ◌≤◌, ◌++◌, ℕ, List, [], slice_get, slice_index_or, slice_range}
+-- How parts are kept: what those of a kind have in common stands once, and the nodes of all in one list.
+use Rattle.std.specs.Prelude.{◌≡◌, ◌<◌, ◌≤◌, ◌+◌, ◌++◌, ℕ, List, [], None, length, slice_index_or, slice_range}
 use Rattle.hdl_flatten.specs.declared.flat.PartAt.{PartAt}
 use Rattle.hdl_flatten.specs.declared.parts.Head.{Head}
+use Rattle.hdl_flatten.specs.declared.parts.Kind.{Kind}
 
--- the part of these names and nodes that a head stands for
-abbrev pub part_of : List (List ℕ) → List ℕ → Head → PartAt
-part_of names nodes head = record { chip = slice_index_or names head.chip []; outs = slice_range nodes head.from head.end; block = head.block }
+-- the kind of a number
+abbrev pub kind_at : List Kind → ℕ → Kind
+kind_at kinds k = slice_index_or kinds k (record { chip = []; outs = 0; block = None })
 
--- of so many names and nodes it names what is there
-pub record IsHead (names nodes : ℕ) (head : Head) : Type 0 where
-  pub chip : head.chip < names
-  pub from : head.from ≤ head.end
-  pub end : head.end ≤ nodes
+-- a part of a kind, whose nodes begin there
+abbrev pub part_from : List ℕ → ℕ → Kind → PartAt
+part_from nodes from kind = record { chip = kind.chip; outs = slice_range nodes from (from + kind.outs); block = kind.block }
+
+-- the part of these kinds and nodes that a head stands for
+abbrev pub part_of : List Kind → List ℕ → Head → PartAt
+part_of kinds nodes head = part_from nodes head.from (kind_at kinds head.kind)
+
+-- of these kinds and so many nodes it names what is there
+pub record IsHead (kinds : List Kind) (nodes : ℕ) (head : Head) : Type 0 where
+  pub kind : head.kind < length kinds
+  pub end : head.from + (kind_at kinds head.kind).outs ≤ nodes
 
 -- a list is the beginning of another
-pub record HasMore (old new : List (List ℕ)) : Type 0 where
-  pub more : List (List ℕ)
+pub record HasMore (old new : List Kind) : Type 0 where
+  pub more : List Kind
   pub longer : new ≡ old ++ more

@@ -1,4 +1,4 @@
-use Rattle.std.proofs.Common.{length, slice_index, arith}
+use Rattle.std.proofs.Common.{slice_index, arith}
 use Rattle.hdl_flatten.proofs.Heads.{all_mapped}
 use Rattle.hdl_flatten.proofs.parts.renumber.Goals as goal
 
