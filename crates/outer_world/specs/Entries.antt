@@ -21,7 +21,7 @@ ends_like_a_source name =
 abbrev pub is_dots : List ℕ → Bool
 is_dots name = bytes_eq name [] || bytes_eq name (codes ".") || bytes_eq name (codes "..")
 
--- Such a name refuses its whole folder: it is no text, and ends like a source, which would be missed.
+-- Such a name refuses its whole folder: it is no text, and ends like a source, which might be missed.
 unfoldable pub is_refused : List ℕ → Bool
 is_refused name = not (is_utf8 name) && ends_like_a_source name
 
