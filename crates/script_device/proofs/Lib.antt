@@ -15,3 +15,4 @@ pub mod Reading
 pub mod Keeping
 pub mod Named
 pub mod Runs
+pub mod Firsts

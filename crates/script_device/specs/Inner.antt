@@ -4,3 +4,4 @@ pub mod Registers
 pub mod Driving
 pub mod Naming
 pub mod Wanted
+pub mod Numbers

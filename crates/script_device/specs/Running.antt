@@ -67,6 +67,12 @@ DeviceRuns simplify code.Empty = Unit {0}
 DeviceRuns simplify (code.Chip c) = ChipRuns simplify c
 DeviceRuns simplify (code.Machine m) = Unit {0}
 
+-- it is a chip, and the netlist that runs for it is simplified, or its own
+abbrev pub RunsAs : Bool → code_devices.Device → Type 0
+RunsAs simplify code.Empty = ⊥
+RunsAs simplify (code.Chip c) = ChipRuns simplify c
+RunsAs simplify (code.Machine m) = ⊥
+
 -- ---- what is seen
 
 -- what the code's probe stands for

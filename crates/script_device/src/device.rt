@@ -9,7 +9,7 @@ ghost use Rattle.script_device.specs.Devices.{IsChip, SeesAll, after_eval, after
 ghost use Rattle.script_device.specs.Devices.Device.{Chip, Machine};
 ghost use Rattle.script_device.specs.Inner.Driving.{HasMemory, IsWhole, SetsChip, SetsMachine};
 ghost use Rattle.script_device.specs.Inner.Sources.{source_of};
-ghost use Rattle.script_device.specs.Running.{CanSee, DeviceRuns, Finds, Stands, TellsImage, TellsMemory, TellsSet, probe_source, running_of, steps_of};
+ghost use Rattle.script_device.specs.Running.{CanSee, DeviceRuns, Finds, RunsAs, Stands, TellsImage, TellsMemory, TellsSet, probe_source, running_of, steps_of};
 ghost use Rattle.script_device.specs.Machines.{RunningMachine};
 
 use crate::chip::DrivenChip;
@@ -52,7 +52,7 @@ fn probe_of(alloc: Global, variable: Variable<'_>) -> Result<Probe, AllocError>
 fn find_in_chip(alloc: Global, chip: &DrivenChip, text: &[u8]) -> Result<Option<Probe>, AllocError>
     ensures { (calls : List Call) → IfOk result (Finds (Chip (chip_of chip.now) calls) text.now) }
 {
-    match find_variable(chip.directory(), chip.sizes(), text) {
+    match find_variable(chip.directory(), chip.tables(), chip.sizes(), text) {
         None => Ok(None),
         Some(variable) => Ok(Some(probe_of(alloc, variable)?)),
     }
@@ -93,7 +93,7 @@ fn set_variable(chip: &mut DrivenChip, text: &[u8], word: u16) -> bool
     ensures set { (calls : List Call) → IsDriven chip.old calls
         → SetsChip (chip_of chip.old) calls chip.new text.now word result }
 {
-    match find_settable(chip.directory(), chip.sizes(), text) {
+    match find_settable(chip.directory(), chip.tables(), chip.sizes(), text) {
         None => false,
         Some(Variable::Time) => false,
         Some(Variable::Bus(nodes)) => {
@@ -123,7 +123,7 @@ fn memory_block(chip: &DrivenChip) -> Option<u32>
     ensures { MatchOption result ((block : ℕ) → HasMemory (chip_of chip.now) block → ⊥)
         (λ block. HasMemory (chip_of chip.now) block) }
 {
-    let Some(block) = block_named(chip.directory(), b"ROM32K".as_slice()) else {
+    let Some(block) = block_named(chip.directory(), chip.tables(), b"ROM32K".as_slice()) else {
         return None;
     };
     if is_whole(chip.sizes(), block) {
@@ -242,6 +242,7 @@ impl Device {
     pub fn is_chip(&self, simplify: bool) -> bool
         ensures chip { (d : devices.Device) → Stands self.now d → result ≡ true → IsChip d }
         ensures runs { result ≡ true → DeviceRuns simplify self.now }
+        ensures exact { IsTrue result ↔ RunsAs simplify self.now }
     {
         match self {
             Device::Empty | Device::Machine(_) => false,

@@ -1,11 +1,12 @@
 //! What a script does to a chip, and what it sees of it.
 
-ghost use Rattle.std.specs.Prelude.{◌≡◌, ◌<◌, ◌≤◌, ◌+◌, ◌-◌, ◌^◌, ℕ, suc, Bool, true, false, cond, List, [], ◌∷◌, Some, None, IfOk, MatchOption, length, slice_get};
+ghost use Rattle.std.specs.Prelude.{◌≡◌, ◌<◌, ◌≤◌, ◌+◌, ◌-◌, ◌^◌, ℕ, suc, Bool, true, false, cond, List, [], ◌∷◌, IfOk, MatchOption, length, slice_get};
 ghost use Rattle.gate_sim.specs.Calls.{Call};
 ghost use Rattle.gate_sim.specs.Calls.Call.{Eval, Load, Tick, Tock};
 ghost use Rattle.gate_sim.specs.Values.{AreValues};
-ghost use Rattle.script_device.specs.Directory.{AreSizes, IsBus, IsInput, OfNamed, loaded_chip, part_named, pin_named};
+ghost use Rattle.script_device.specs.Directory.{AreSizes, IsBus, IsInput, OfNamed, loaded_chip};
 ghost use Rattle.script_device.specs.Driven.{Sees, ChipRuns, IsDriven, bus_value, chip_of, value_seen, set_source, time_after, time_of};
+ghost use Rattle.script_device.specs.Inner.Numbers.{AreTables};
 ghost use Rattle.script_device.specs.Simulated.{ReadsAs};
 ghost use Rattle.script_device.specs.Variables.{Denotes};
 ghost use Rattle.script_device.specs.Variables.Source.{BlockWord, Nodes};
@@ -13,37 +14,12 @@ ghost use Rattle.script_device.specs.Variables.Source.{BlockWord, Nodes};
 use crate::bus::{bus_word, set_bus};
 use crate::chip::DrivenChip;
 use crate::chip_sim::ChipSim;
-use crate::directory::{Directory, PartNodes, PinNodes};
+use crate::directory::Directory;
 use crate::naming::named_nodes;
+use crate::tables::Tables;
 use netlist::Netlist;
 use script_columns::Value;
 use std::alloc::{AllocError, Global};
-
-/// The nodes of the pin of this name.
-pub fn pin_named<'a>(pins: &'a [PinNodes], name: &[u8]) -> Option<&'a [u32]>
-    ensures { MatchOption result (pin_named pins.now name.now ≡ None)
-        (λ nodes. pin_named pins.now name.now ≡ Some nodes.now) }
-{
-    for pin in pins {
-        if pin.name.as_bytes() == name {
-            return Some(pin.nodes.as_slice());
-        }
-    }
-    None
-}
-
-/// The first part of the chip of this name.
-pub fn part_named<'a>(parts: &'a [PartNodes], name: &[u8]) -> Option<&'a PartNodes>
-    ensures { MatchOption result (part_named parts.now name.now ≡ None)
-        (λ part. part_named parts.now name.now ≡ Some part.now) }
-{
-    for part in parts {
-        if part.chip.as_bytes() == name {
-            return Some(part);
-        }
-    }
-    None
-}
 
 // The cycle after a tock.
 fn next_cycle(cycle: u64, ticked: bool) -> u64
@@ -85,12 +61,14 @@ impl DrivenChip {
         ensures runs { IfOk result (ChipRuns false) }
     {
         let sizes = sizes_of(alloc, &net)?;
+        let tables = Tables::new(alloc, &directory)?;
         Ok(DrivenChip {
             sim: ChipSim::new(alloc, net)?,
             sizes,
             cycle: 0,
             ticked: false,
             directory,
+            tables,
         })
     }
 
@@ -107,6 +85,7 @@ impl DrivenChip {
         ensures runs { IfOk result (ChipRuns true) }
     {
         let sizes = sizes_of(alloc, &net)?;
+        let tables = Tables::new(alloc, &directory)?;
         let named = named_nodes(alloc, &directory)?;
         Ok(DrivenChip {
             sim: ChipSim::simplified(alloc, net, &named)?,
@@ -114,6 +93,7 @@ impl DrivenChip {
             cycle: 0,
             ticked: false,
             directory,
+            tables,
         })
     }
 
@@ -274,5 +254,12 @@ impl DrivenChip {
         ensures { result.now ≡ (chip_of self.now).directory }
     {
         &self.directory
+    }
+
+    /// The tables of what has a name.
+    pub(crate) fn tables(&self) -> &Tables
+        ensures { AreTables result.now (chip_of self.now).directory }
+    {
+        &self.tables
     }
 }

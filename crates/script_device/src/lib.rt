@@ -11,14 +11,15 @@ mod directory;
 mod driving;
 mod machine;
 mod naming;
+mod numbering;
 mod probe;
 mod registers;
 mod running;
+mod tables;
 mod variables;
 
 pub use chip::DrivenChip;
 pub use device::Device;
 pub use directory::{Directory, PartNodes, PinNodes};
-pub use driving::part_named;
 pub use machine::ScriptMachine;
 pub use probe::Probe;

@@ -8,11 +8,12 @@ ghost use Rattle.script_device.specs.Variables as chips;
 ghost use Rattle.script_device.specs.Variables.Source.{BlockWord};
 ghost use Rattle.script_device.specs.Devices.{CanSet, Denotes, Source};
 ghost use Rattle.script_device.specs.Devices.Device.{Chip};
+ghost use Rattle.script_device.specs.Inner.Numbers.{AreTables};
 ghost use Rattle.script_device.specs.Inner.Sources.{HasSize, IsOut, source_of};
 
 use crate::brackets::{CAP, brackets, capped_number};
 use crate::directory::Directory;
-use crate::driving::{part_named, pin_named};
+use crate::tables::Tables;
 
 /// What a variable stands for: the time, nodes of the chip, the lowest first, or a word of a block, by its block and address.
 #[derive(Clone, Copy)]
@@ -23,24 +24,26 @@ pub enum Variable<'a> {
 }
 
 // The nodes of a pin of the chip.
-fn own_bus<'a>(directory: &'a Directory, text: &[u8]) -> Option<&'a [u32]>
+fn own_bus<'a>(directory: &'a Directory, tables: &Tables, text: &[u8]) -> Option<&'a [u32]>
+    requires { AreTables tables.now directory.now }
     ensures { MatchOption result
         (pin_named (directory.now.inputs ++ directory.now.outputs) text.now ≡ None)
         (λ nodes. pin_named (directory.now.inputs ++ directory.now.outputs) text.now
         ≡ Some nodes.now) }
 {
-    match pin_named(directory.inputs.as_slice(), text) {
+    match tables.input(directory, text) {
         Some(nodes) => Some(nodes),
-        None => pin_named(directory.outputs.as_slice(), text),
+        None => tables.output(directory, text),
     }
 }
 
 // The nodes of `out` of the first part of a chip.
-fn out_named<'a>(directory: &'a Directory, name: &[u8]) -> Option<&'a [u32]>
+fn out_named<'a>(directory: &'a Directory, tables: &Tables, name: &[u8]) -> Option<&'a [u32]>
+    requires { AreTables tables.now directory.now }
     ensures { MatchOption result ((nodes : List ℕ) → HasOut directory.now name.now nodes → ⊥)
         (λ nodes. HasOut directory.now name.now nodes.now) }
 {
-    let Some(part) = part_named(directory.parts.as_slice(), name) else {
+    let Some(part) = tables.part(directory, name) else {
         return None;
     };
     match &part.out {
@@ -50,11 +53,12 @@ fn out_named<'a>(directory: &'a Directory, name: &[u8]) -> Option<&'a [u32]>
 }
 
 /// The block of the first part of a chip.
-pub fn block_named(directory: &Directory, name: &[u8]) -> Option<u32>
+pub fn block_named(directory: &Directory, tables: &Tables, name: &[u8]) -> Option<u32>
+    requires { AreTables tables.now directory.now }
     ensures { MatchOption result ((block : ℕ) → HasBlock directory.now name.now block → ⊥)
         (λ block. HasBlock directory.now name.now block) }
 {
-    let Some(part) = part_named(directory.parts.as_slice(), name) else {
+    let Some(part) = tables.part(directory, name) else {
         return None;
     };
     part.block
@@ -71,7 +75,8 @@ fn has_word(sizes: &[u32], block: u32, address: u32) -> bool
 }
 
 // The nodes of `Name[]`.
-fn part_out<'a>(directory: &'a Directory, text: &[u8]) -> Option<&'a [u32]>
+fn part_out<'a>(directory: &'a Directory, tables: &Tables, text: &[u8]) -> Option<&'a [u32]>
+    requires { AreTables tables.now directory.now }
     ensures { MatchOption result ((nodes : List ℕ) → IsOut directory.now text.now nodes → ⊥)
         (λ nodes. IsOut directory.now text.now nodes.now) }
 {
@@ -79,14 +84,20 @@ fn part_out<'a>(directory: &'a Directory, text: &[u8]) -> Option<&'a [u32]>
         return None;
     };
     if inside.is_empty() {
-        out_named(directory, name)
+        out_named(directory, tables, name)
     } else {
         None
     }
 }
 
 // The block and the address of `Name[k]`.
-fn part_word(directory: &Directory, sizes: &[u32], text: &[u8]) -> Option<(u32, u32)>
+fn part_word(
+    directory: &Directory,
+    tables: &Tables,
+    sizes: &[u32],
+    text: &[u8],
+) -> Option<(u32, u32)>
+    requires { AreTables tables.now directory.now }
     ensures { (net : Net) → AreSizes sizes.now net → MatchOption result
         ((b a : ℕ) → chips.Denotes (loaded_chip net directory.now) text.now (BlockWord b a) → ⊥)
         (λ word. chips.Denotes (loaded_chip net directory.now) text.now (BlockWord word.0 word.1)) }
@@ -97,7 +108,7 @@ fn part_word(directory: &Directory, sizes: &[u32], text: &[u8]) -> Option<(u32, 
     if inside.is_empty() {
         return None;
     }
-    let Some(block) = block_named(directory, name) else {
+    let Some(block) = block_named(directory, tables, name) else {
         return None;
     };
     let address = capped_number(inside);
@@ -111,9 +122,11 @@ fn part_word(directory: &Directory, sizes: &[u32], text: &[u8]) -> Option<(u32, 
 /// What a text stands for in a chip, of whose blocks these are the numbers of words.
 pub fn find_variable<'a>(
     directory: &'a Directory,
+    tables: &Tables,
     sizes: &[u32],
     text: &[u8],
 ) -> Option<Variable<'a>>
+    requires { AreTables tables.now directory.now }
     ensures { (net : Net) (calls : List Call) → AreSizes sizes.now net → MatchOption result
         ((source : Source) →
         Denotes (Chip (loaded_chip net directory.now) calls) text.now source → ⊥)
@@ -122,13 +135,13 @@ pub fn find_variable<'a>(
     if text == b"time".as_slice() {
         return Some(Variable::Time);
     }
-    if let Some(nodes) = own_bus(directory, text) {
+    if let Some(nodes) = own_bus(directory, tables, text) {
         return Some(Variable::Bus(nodes));
     }
-    if let Some(nodes) = part_out(directory, text) {
+    if let Some(nodes) = part_out(directory, tables, text) {
         return Some(Variable::Bus(nodes));
     }
-    match part_word(directory, sizes, text) {
+    match part_word(directory, tables, sizes, text) {
         None => None,
         Some((block, address)) => Some(Variable::Word(block, address)),
     }
@@ -137,9 +150,11 @@ pub fn find_variable<'a>(
 /// What a text stands for in a chip that can be set.
 pub fn find_settable<'a>(
     directory: &'a Directory,
+    tables: &Tables,
     sizes: &[u32],
     text: &[u8],
 ) -> Option<Variable<'a>>
+    requires { AreTables tables.now directory.now }
     ensures { (net : Net) (calls : List Call) → AreSizes sizes.now net → MatchOption result
         ((source : Source)
         → CanSet (Chip (loaded_chip net directory.now) calls) text.now source → ⊥)
@@ -148,10 +163,10 @@ pub fn find_settable<'a>(
     if text == b"time".as_slice() {
         return None;
     }
-    if let Some(nodes) = pin_named(directory.inputs.as_slice(), text) {
+    if let Some(nodes) = tables.input(directory, text) {
         return Some(Variable::Bus(nodes));
     }
-    match part_word(directory, sizes, text) {
+    match part_word(directory, tables, sizes, text) {
         None => None,
         Some((block, address)) => Some(Variable::Word(block, address)),
     }
