@@ -2,6 +2,7 @@ pub mod Tables
 pub mod Sound
 pub mod Columns
 pub mod States
+pub mod There
 pub mod Outlets
 pub mod Files
 pub mod Gathered

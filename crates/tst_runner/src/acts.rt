@@ -1,6 +1,6 @@
 //! The acts of a script, one by one.
 
-ghost use Rattle.std.specs.Prelude.{◌≡◌, ◌<◌, ◌+◌, ◌^◌, ◌++◌, ◌∷◌, [], Bool, List, ℕ, Option, IfOk, OnOk, true};
+ghost use Rattle.std.specs.Prelude.{◌≡◌, ◌↔◌, ◌<◌, ◌+◌, ◌^◌, ◌++◌, ◌∷◌, [], Bool, List, ℕ, Option, IfOk, IsTrue, OnOk, true};
 ghost use Rattle.std.specs.Str.Lossy.{utf8_lossy};
 ghost use Rattle.outer_world.specs.Files.{path_in};
 ghost use Rattle.outer_world.specs.Written.{CountsPut, Puts};
@@ -13,6 +13,7 @@ ghost use Rattle.script_device.specs.Running.{DeviceRuns, Stands};
 ghost use Rattle.tst_runner.specs.Setting.{Setting, folder_of, setting_of};
 ghost use Rattle.tst_runner.specs.Standing.{Standing};
 ghost use Rattle.tst_runner.specs.Inner.Outlets.{HasPassed, PutsBehind};
+ghost use Rattle.tst_runner.specs.Inner.There.{IsThere};
 ghost use Rattle.tst_runner.specs.Inner.States.{Becomes, Compares, CountsStop, FindsColumns, IsFrom, IsNameStop, IsState, Misses, Performs, PutsEcho, PutsOut, Quietly, StandsThere};
 
 use crate::files::{load_compared, load_image, path_beside};
@@ -268,6 +269,7 @@ fn do_echo<E: Sink>(text: &[u8], err: &mut E) -> Result<(), Stop>
 
 // Whether the device is the chip of a file already, with the netlist that is to run for it.
 fn is_there(simplify: bool, file: &[u8], state: &State) -> bool
+    ensures there { IsTrue result ↔ IsThere simplify file.now state.now }
     ensures chip { (setting : Setting) (s : Standing) → IsState setting state.now s
         → result ≡ true → IsChip s.device × IsFrom setting file.now s.device }
     ensures runs { result ≡ true → DeviceRuns simplify state.now.device }
@@ -293,6 +295,7 @@ fn do_load<F: Shelf>(
         (F.state shelf.old).there (F.state shelf.old).unfailing s (acts.Load file.now))
         s (acts.Load file.now) state.new result }
     ensures runs { OnOk result (DeviceRuns script.entry.simplify state.new.device) }
+    ensures again { IsThere script.entry.simplify file.now.text state.old → shelf.new ≡ shelf.old }
     ensures counts { (o e : ℕ)
         → CountsStop (F.faults shelf.old) (F.faults shelf.new) o o e e result }
     ensures keeps { Keeps (F.state shelf.old) (F.state shelf.new) }

@@ -1,12 +1,27 @@
-use Rattle.std.proofs.Common.{List, ℕ, [], refl, subst, sym, ◌∙◌}
+use Rattle.std.proofs.Common.{List, ℕ, [], Err, refl, subst, sym, ◌∙◌}
+use Rattle.std.proofs.lemmas.Result.{err_from_is_err_and}
+use Rattle.source_files.specs.Loads.{Loads}
+use Rattle.script_parser.specs.declared.tree.Act.TheVariants as acts
 use Rattle.script_device.specs.Devices.{after_restart}
 use Rattle.tst_runner.specs.Setting.{setting_of}
 use Rattle.tst_runner.specs.Inner.Columns.{AreColumns}
 use Rattle.tst_runner.specs.Inner.Loaded.{StandsForLoaded}
-use Rattle.tst_runner.specs.Inner.States.{IsFrom}
+use Rattle.tst_runner.specs.Inner.States.{IsFrom, IsNoDevice, Misses, MissesDevice}
 use Rattle.tst_runner.proofs.Kept.{Stays-restart, device_again, from_loaded, from_still}
-use Rattle.tst_runner.proofs.Performed.{Does-load}
+use Rattle.tst_runner.proofs.Performed.{Does-load, Quietly-load}
 use Rattle.tst_runner.proofs.acts.do_load.Goals as goal
+
+pub returns-in_err-state-clause-does : goal.returns-in_err-state-clause-does
+returns-in_err-state-clause-does g c s h =
+    let p = err_from_is_err_and c.from_residual.result c.from_residual.ensures.1 in
+    let shelf = g.F.Shelf.state c.args.shelf.now in
+    let setting = setting_of c.args.script.path.now shelf.files c.args.script.memories in
+    let name = c.args.file.now.text in
+    let act = acts.Load c.args.file.now in
+    let Q : List ℕ → Type 0 = λ file. Loads (StandsForLoaded setting file) (IsNoDevice setting file) (MissesDevice shelf setting file) (Err c.in_err-state.field-0.0) in
+    rw (p.1, p.2) (Quietly-load (StandsForLoaded setting name) (IsNoDevice setting name) (MissesDevice shelf setting name) setting
+    (Misses setting shelf.there shelf.unfailing s act) s act c.args.state.now c.in_err-state.field-0.0 (λ line k. k) (λ m. (tt, m))
+    (subst Q c.as_slice-2.ensures c.in_err-state.ensures.loads))
 
 pub returns-clause-does : goal.returns-clause-does
 returns-clause-does g c s h =
