@@ -108,6 +108,15 @@ fails shelf 3
 read fault
 err
 |nand: read fault
+
+# a line feed in a name parts the line of its fault in two
+files 1 p/a~b.jack
+:x
+$ build p
+refused
+err
+|p/a
+|b.jack:1:1: Grammar
 ";
 
 // the routines stand at the end of the image: call, return, and the comparisons by = > <

@@ -50,6 +50,25 @@ $ run prog --level hack --cycles 100 --keys k.txt
 refused
 err
 |prog/Main.jack:1:7: FileName A
+
+# the most cycles are a line, whose folder is looked at; one more is none
+file prog/Main.jack
+:class A { }
+$ run prog --level vm --cycles 1000000000
+$ run prog --level hack --cycles 1000000000
+$ run prog --level gates --cycles 1000000000
+$ debug prog --break Main.main:1 --cycles 1000000000
+refused
+err
+|prog/Main.jack:1:7: FileName A
+
+$ run prog --level vm --cycles 1000000001
+$ run prog --level hack --cycles 1000000001
+$ run prog --level gates --cycles 1000000001
+$ debug prog --break Main.main:1 --cycles 1000000001
+usage
+err
+|usage: nand COMMAND ARGUMENTS
 ";
 
 const FULL: &str = "

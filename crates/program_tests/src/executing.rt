@@ -350,7 +350,7 @@ usage
 err
 |usage: nand COMMAND ARGUMENTS
 
-# a file that is not there
+# a file that is not there, whatever the cycles, and if they are the most
 file Add.asm
 |@2
 |D=A
@@ -359,6 +359,7 @@ file Add.asm
 |@0
 |M=D
 $ exec Sub.asm --cycles 6 --from 0 --to 1
+$ exec Sub.asm --cycles 1000000000 --from 0 --to 1
 read fault
 err
 |nand: read fault

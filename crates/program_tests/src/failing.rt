@@ -65,6 +65,8 @@ file t/Deep.tst
 :echo \"first\"; load C40.hdl;
 file t/Two.tst
 :load And2.hdl, load And.hdl, output-list a;
+file t/Again.tst
+:load And2.hdl, load And2.hdl, output-list a;
 # scripts that load programs
 file r/Asm.tst
 :load Add.asm, output-list A;
@@ -159,6 +161,8 @@ const CALLS: &[(&str, u64, Status)] = &[
     ("test t/And.tst", 5, Status::Done),
     // the folder again, with the chip of the second load
     ("test t/Two.tst", 6, Status::Done),
+    // nothing more for a chip that is loaded already
+    ("test t/Again.tst", 4, Status::Done),
     // the script and the program; and between them the folder and a chip
     ("test r/Asm.tst", 2, Status::Done),
     ("test r/Rom.tst", 4, Status::Done),

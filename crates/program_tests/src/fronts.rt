@@ -246,3 +246,31 @@ fn each_front_of_a_text(rt: HostRuntime) -> Result<(), Fail> {
     }
     Ok(())
 }
+
+// These bytes alone are reported at the first of them.
+fn is_no_text(
+    rt: &impl Abort,
+    alloc: Global,
+    fronts: &Fronts<'_>,
+    bytes: &[u8],
+) -> Result<(), Fail> {
+    let outcome = outcome_at(alloc, fronts, bytes, b"")?;
+    is_told(rt, alloc, fronts, &outcome, Some((1, 1)))
+}
+
+// A zero byte, one that is no letter, bytes of no UTF-8, and a byte order mark.
+fn none_is_a_text(rt: &impl Abort, alloc: Global, fronts: &Fronts<'_>) -> Result<(), Fail> {
+    for bytes in [b"\0".as_slice(), b"\x7f", b"\x80", b"\xff", b"\xef\xbb\xbf"] {
+        is_no_text(rt, alloc, fronts, bytes)?;
+    }
+    Ok(())
+}
+
+// Bytes that begin no text of any language are reported at once.
+#[test]
+fn bytes_that_begin_no_text(rt: HostRuntime) -> Result<(), Fail> {
+    for fronts in [&ASSEMBLY, &IMAGE, &VM, &JACK, &CHIP, &SCRIPT, &KEYS] {
+        none_is_a_text(&rt, rt.alloc(), fronts)?;
+    }
+    Ok(())
+}

@@ -48,6 +48,37 @@ $ test t/40.tst
 refused
 err
 |t/C40.hdl:0:0: TooManyNodes 1000000000
+
+# 16,777,216 nodes are not too many: of At it is the parts without a node that are. One node more is told
+file t/C0.hdl
+:CHIP C0 { IN in; OUT out; PARTS: Nand(a=in, b=in, out=out); }
+files 22 t/C#.hdl
+:CHIP C# { IN in; OUT out; PARTS: C%(in=in, out=n); C%(in=n, out=out); }
+file t/S0.hdl
+:CHIP S0 { IN in; OUT out; PARTS: }
+files 22 t/S#.hdl
+:CHIP S# { IN in; OUT out; PARTS: S%(in=in); C#(in=in, out=out); }
+file t/E0.hdl
+:CHIP E0 { IN in; OUT out; PARTS: }
+files 27 t/E#.hdl
+:CHIP E# { IN in; OUT out; PARTS: E%(in=in, out=n); E%(in=n, out=out); }
+file t/At.hdl
+:CHIP At { IN in; OUT out; PARTS: S22(in=in); S22(in=in); C0(in=in); E27(in=in); }
+file t/Past.hdl
+:CHIP Past { IN in; OUT out; PARTS: S22(in=in); S22(in=in); C1(in=in); E27(in=in); }
+file t/At.tst
+:load At.hdl;
+file t/Past.tst
+:load Past.hdl;
+$ test t/At.tst
+no memory
+err
+|nand: want of memory
+
+$ test t/Past.tst
+refused
+err
+|t/Past.hdl:0:0: TooManyNodes 16777217
 ";
 
 const CODE: &str = "

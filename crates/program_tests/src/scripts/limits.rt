@@ -78,12 +78,19 @@ refused
 err
 |t/a.tst:1:2561: Range 257
 
-# the greatest count, which is done no times, and two that come to more
+# the greatest count, which is done no times, and two that come to it, with a fault behind them; two that come to more
 file t/a.tst
 :repeat 0 { repeat 1000000000 { output; } } output;
 $ test t/a.tst
 out
 ||
+
+file t/a.tst
+:repeat 2 { repeat 500000000 { } } repeat 1000000001 { }
+$ test t/a.tst
+refused
+err
+|t/a.tst:1:42: Range 1000000000
 
 file t/a.tst
 :repeat 2 { repeat 500000001 { } }
