@@ -14,7 +14,7 @@ use vm_tree::Program;
 /// There is a file for each class, with every subroutine of it, whether something calls it or not. The files of the folder's classes
 /// come first.
 ///
-/// Otherwise the first fault of the operating system's texts, else the first name fault.
+/// Otherwise the first name fault.
 pub fn compile_classes(alloc: Global, own: &[Class], replace: bool) -> Result<Program, ProgramError>
     requires few { length own.now ≤ 256 }
     requires spelled { AreSpelled own.now }
