@@ -201,6 +201,15 @@ fn enters_of<'a>(
     }
 }
 
+/// The joints in no more memory than they take.
+fn fitted<'a>(joints: Vec<Joint<'a>>) -> Vec<Joint<'a>>
+    ensures { result.items ≡ joints.entry.items }
+{
+    let mut joints = joints;
+    joints.shrink_to_fit();
+    joints
+}
+
 /// Adds the bundle of an output bit, if place k is its last among the joints that go out.
 fn add_bundle<'a>(
     alloc: Global,
@@ -239,8 +248,8 @@ fn add_bundle<'a>(
     let leaves = joints_at(alloc, &sides.leaves, &sides.leaves_at, &leave.pin)?;
     graph.push(Bundle {
         chip,
-        enters,
-        leaves,
+        enters: fitted(enters),
+        leaves: fitted(leaves),
     })?;
     Ok(())
 }

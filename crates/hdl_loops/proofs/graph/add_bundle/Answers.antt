@@ -3,6 +3,7 @@ use Rattle.std.proofs.lemmas.Bool.Decides.{Decides-eqb}
 use Rattle.std.proofs.lemmas.Option.{slice_get_read}
 use Rattle.hdl_check.specs.Whole.{chips_in}
 use Rattle.hdl_loops.specs.Inner.Bundles.{hops_in}
+use Rattle.hdl_loops.specs.Inner.Knowing.{AreEnters}
 use Rattle.hdl_loops.specs.Inner.Ties.{In}
 use Rattle.hdl_loops.specs.declared.joint.Joint.{Joint}
 use Rattle.hdl_loops.proofs.Pinning.{none_in, empty_bundle, bundle_only, bundle_last}
@@ -28,8 +29,10 @@ returns-clause-right c =
     let leave = c.index-leave.result.now in
     let at = slice_get_read items (length items) c.args.k leave refl c.requires.place c.index-leave.ensures in
     let same = c.deref.ensures.value in
-    bundle_only chips c.args.known.now c.args.chip sides c.requires.sides c.args.graph.now.items c.push.new.self.items c.args.k leave _ at refl c.in_ok-enters.ensures
-    (λ j h. let r = c.in_ok-leaves.ensures.only j h in (subst (λ (v : List Joint). In j v) same r.0, r.1)) (λ j h e. c.in_ok-leaves.ensures.all j (subst (λ (v : List Joint). In j v) (sym same) h) e) c.in_ok-push.ensures.items
+    let E : List Joint → Type 0 = λ v. AreEnters chips c.args.known.now c.args.chip sides.enters.items leave v in
+    bundle_only chips c.args.known.now c.args.chip sides c.requires.sides c.args.graph.now.items c.push.new.self.items c.args.k leave _ at refl (subst E (sym c.fitted.ensures) c.in_ok-enters.ensures)
+    (λ j h. let r = c.in_ok-leaves.ensures.only j (subst (λ (v : List Joint). In j v) c.fitted-2.ensures h) in (subst (λ (v : List Joint). In j v) same r.0, r.1))
+    (λ j h e. subst (λ (v : List Joint). In j v) (sym c.fitted-2.ensures) (c.in_ok-leaves.ensures.all j (subst (λ (v : List Joint). In j v) (sym same) h) e)) c.in_ok-push.ensures.items
 
 pub returns-clause-there : goal.returns-clause-there
 returns-clause-there c =
@@ -39,5 +42,7 @@ returns-clause-there c =
     let leave = c.index-leave.result.now in
     let at = slice_get_read items (length items) c.args.k leave refl c.requires.place c.index-leave.ensures in
     let same = c.deref.ensures.value in
-    bundle_last chips c.args.known.now c.args.chip sides c.requires.sides c.args.graph.now.items c.push.new.self.items c.args.k leave _ at refl c.in_ok-enters.ensures
-    (λ j h. let r = c.in_ok-leaves.ensures.only j h in (subst (λ (v : List Joint). In j v) same r.0, r.1)) (λ j h e. c.in_ok-leaves.ensures.all j (subst (λ (v : List Joint). In j v) (sym same) h) e) c.in_ok-push.ensures.items
+    let E : List Joint → Type 0 = λ v. AreEnters chips c.args.known.now c.args.chip sides.enters.items leave v in
+    bundle_last chips c.args.known.now c.args.chip sides c.requires.sides c.args.graph.now.items c.push.new.self.items c.args.k leave _ at refl (subst E (sym c.fitted.ensures) c.in_ok-enters.ensures)
+    (λ j h. let r = c.in_ok-leaves.ensures.only j (subst (λ (v : List Joint). In j v) c.fitted-2.ensures h) in (subst (λ (v : List Joint). In j v) same r.0, r.1))
+    (λ j h e. subst (λ (v : List Joint). In j v) (sym c.fitted-2.ensures) (c.in_ok-leaves.ensures.all j (subst (λ (v : List Joint). In j v) (sym same) h) e)) c.in_ok-push.ensures.items
